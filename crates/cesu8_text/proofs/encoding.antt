@@ -1,5 +1,5 @@
--- Encodings: of one scalar value, of a text, how long, also in code units, and that bytes begin with one
--- character at most.
+-- Encodings: their bytes, their lengths in bytes and in code units, that bytes begin with at most
+-- one character, and when a text needs encoding.
 pub mod Forms
 pub mod Encodings
 pub mod Lengths

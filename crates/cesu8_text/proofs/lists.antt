@@ -1,2 +1,2 @@
--- Lists of bytes, with nothing of an encoding.
+-- Lists of bytes, without reference to an encoding.
 pub mod Elements

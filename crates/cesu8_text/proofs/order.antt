@@ -1,5 +1,4 @@
--- The order of encodings, that of UTF-8 by ranks, and the laws that are put together from several
--- lemmas.
+-- The order of encodings and of UTF-8 ranks, and the laws that combine several lemmas.
 pub mod Below
 pub mod UnitOrder
 pub mod Lawful

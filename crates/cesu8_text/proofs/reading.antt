@@ -1,4 +1,4 @@
--- The lossy and the strict reading: greedy cuttings, and what stands where.
+-- Strict and lossy readings: which characters stand at which offsets, and greedy cuttings.
 pub mod Standing
 pub mod Inside
 pub mod Stretches

@@ -1,3 +1,3 @@
--- UTF-8: std's and this crate's, and the borders between widths.
+-- UTF-8 by the number of bytes, with the first and last scalar value of each width.
 pub mod Shapes
 pub mod Borders

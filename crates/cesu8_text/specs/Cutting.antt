@@ -1,11 +1,12 @@
--- Bytes cut into encoded characters and replaced bytes.
+-- A second definition of lossy decoding: bytes are cut into pieces, each an encoded character or
+-- one byte that is replaced.
 use Rattle.std.specs.Prelude.{◌≡◌, ℕ, ◌+◌, List, [], ◌∷◌, map, ⊤}
 use Rattle.std.specs.List.{flat_map}
 use Rattle.cesu8_text.specs.Text.{IsScalarValue}
 use Rattle.cesu8_text.specs.Encoding.{Flavor, encoding}
 use Rattle.cesu8_text.specs.Reading.{NoneBegins}
 
--- A character, with the bytes of its encoding, or a single byte that is replaced.
+-- An encoded character, or one byte that is replaced.
 pub data Piece : Type 0 where
   Character : (c : ℕ) → Piece
   Replaced : (byte : ℕ) → Piece
@@ -21,7 +22,7 @@ abbrev pub character_of : Piece → ℕ
 character_of (Character c) = c
 character_of (Replaced byte) = 0xFFFD
 
--- The text of a cutting has the replacement character for each replaced byte.
+-- The text of a cutting: its characters, with U+FFFD for each replaced byte.
 abbrev pub text_of : List Piece → List ℕ
 text_of pieces = map character_of pieces
 
@@ -33,17 +34,17 @@ abbrev pub ArePieces : List Piece → Type 0
 ArePieces [] = ⊤
 ArePieces (piece ∷ pieces) = IsPiece piece × ArePieces pieces
 
--- The bytes of the pieces, joined, are these bytes.
+-- The pieces are valid, and their bytes, joined, are these bytes.
 abbrev pub IsCutting : Flavor → List ℕ → List Piece → Type 0
 IsCutting f bytes pieces = ArePieces pieces × (bytes_of f pieces ≡ bytes)
 
--- No encoded character begins at the offset of a replaced byte.
+-- A cutting is greedy if it replaces a byte only if no encoded character begins there.
 abbrev pub IsGreedy : Flavor → List Piece → Type 0
 IsGreedy f [] = ⊤
 IsGreedy f (Character c ∷ pieces) = IsGreedy f pieces
 IsGreedy f (Replaced byte ∷ pieces) = NoneBegins f (byte ∷ bytes_of f pieces) × IsGreedy f pieces
 
--- The cost of a cutting: how many bytes it replaces.
+-- The cost of a cutting is the number of bytes that it replaces.
 abbrev pub cost : List Piece → ℕ
 cost [] = 0
 cost (Character c ∷ pieces) = cost pieces

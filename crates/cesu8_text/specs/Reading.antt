@@ -1,28 +1,28 @@
--- The readings of bytes as a text.
+-- What bytes decode to. A "reading" is the decoded text: strict, lenient, or lossy with U+FFFD for
+-- each ill-formed byte.
 use Rattle.std.specs.Prelude.{◌≡◌, ◌⊎◌, ℕ, ◌+◌, ◌-◌, ◌*◌, ◌<◌, Bool, ◌&&◌, ◌||◌, nat_eq, nat_lt, nat_le, if◌then◌else◌, List, [], ◌∷◌, ◌++◌, length, drop, slice_index, Option, Some, None}
 use Rattle.std.specs.List.{flat_map, find, list_any, range_with_len, starts_with}
 use Rattle.cesu8_text.specs.Text.{IsScalarValue, IsText, utf8, IsUtf8Of}
 use Rattle.cesu8_text.specs.Encoding.{Flavor, encoding}
 
--- The bytes are the encoding of the scalar value c, and then rest.
+-- The bytes are the encoding of the scalar value c, followed by rest.
 pub record BeginsWith (f : Flavor) (bytes : List ℕ) (c : ℕ) (rest : List ℕ) : Type 0 where
   pub scalar : IsScalarValue c
   pub bytes_are : bytes ≡ encoding f (c ∷ []) ++ rest
 
--- No encoded character begins the bytes.
+-- The bytes begin with no encoded character.
 abbrev pub NoneBegins : Flavor → List ℕ → Type 0
 NoneBegins f bytes = (c : ℕ) (rest : List ℕ) → ¬ (BeginsWith f bytes c rest)
 
--- The strict reading of bytes is the text whose encoding they are. If there is no such text, they
--- have none.
+-- The strict reading of bytes is the text whose encoding they are, if there is one.
 abbrev pub IsStrictReading : Flavor → List ℕ → List ℕ → Type 0
 IsStrictReading f bytes text = IsText text × (encoding f text ≡ bytes)
 
 abbrev pub HasNoStrictReading : Flavor → List ℕ → Type 0
 HasNoStrictReading f bytes = (text : List ℕ) → ¬ (IsStrictReading f bytes text)
 
--- The lenient reading of bytes is their text if they are UTF-8 as a whole, and otherwise the strict
--- reading. No bytes are read partly as one and partly as the other.
+-- The lenient reading: if the bytes as a whole are UTF-8, their text, and otherwise the strict
+-- reading. The two are never mixed.
 abbrev pub IsLenientReading : Flavor → List ℕ → List ℕ → Type 0
 IsLenientReading f bytes text =
     IsUtf8Of text bytes ⊎ (((other : List ℕ) → ¬ (IsUtf8Of other bytes)) × IsStrictReading f bytes text)
@@ -30,8 +30,8 @@ IsLenientReading f bytes text =
 abbrev pub HasNoLenientReading : Flavor → List ℕ → Type 0
 HasNoLenientReading f bytes = (text : List ℕ) → ¬ (IsLenientReading f bytes text)
 
--- The character c stands at offset i: its encoding begins the bytes from there on. Its stretch is
--- the offsets of that encoding.
+-- The character c stands at offset i: the bytes from there on begin with its encoding. The offsets
+-- of that encoding are its stretch.
 abbrev pub StandsAt : Flavor → List ℕ → ℕ → ℕ → Type 0
 StandsAt f bytes i c = (rest : List ℕ) × BeginsWith f (drop i bytes) c rest
 
@@ -42,17 +42,17 @@ width f c = length (encoding f (c ∷ []))
 abbrev pub LiesWithin : Flavor → List ℕ → ℕ → Type 0
 LiesWithin f bytes i = (j : ℕ) × (c : ℕ) × StandsAt f bytes j c × (j < i) × (i < j + width f c)
 
--- The mark of offset i: the character that stands there; nothing if none does and the offset is
--- in a stretch that begins earlier; and otherwise the replacement character.
+-- The mark of an offset is what lossy decoding writes for it: the character that stands there, if
+-- any; otherwise nothing if the offset is in a stretch that begins earlier, and U+FFFD if not.
 pub data IsMark (f : Flavor) (bytes : List ℕ) (i : ℕ) : List ℕ → Type 0 where
   Stands : (c : ℕ) → StandsAt f bytes i c → IsMark f bytes i (c ∷ [])
   Within : NoneBegins f (drop i bytes) → LiesWithin f bytes i → IsMark f bytes i []
   Damaged : NoneBegins f (drop i bytes) → ¬ (LiesWithin f bytes i) → IsMark f bytes i (0xFFFD ∷ [])
 
--- The lossy reading, computed.
+-- From here on, the lossy reading as a function.
 
--- The inverse of the forms: the number whose form two bytes, or three, would be. Likewise that of a
--- surrogate pair, by its second, third, fifth and sixth byte.
+-- The code point that two or three bytes would encode, or a surrogate pair with these second,
+-- third, fifth and sixth bytes.
 abbrev pub two_byte_value : ℕ → ℕ → ℕ
 two_byte_value a b = (a - 0xC0) * 0x40 + (b - 0x80)
 
@@ -62,7 +62,7 @@ three_byte_value a b d = (a - 0xE0) * 0x1000 + (b - 0x80) * 0x40 + (d - 0x80)
 abbrev pub pair_value : ℕ → ℕ → ℕ → ℕ → ℕ
 pair_value b d g h = 0x10000 + (b - 0xA0) * 0x10000 + (d - 0x80) * 0x400 + (g - 0xB0) * 0x40 + (h - 0x80)
 
--- The numbers whose encoding could begin the bytes: one for each length.
+-- The code points whose encoding could begin the bytes: one for each length.
 abbrev pub candidates : List ℕ → List ℕ
 candidates bytes =
     let b = slice_index bytes in
@@ -71,12 +71,13 @@ candidates bytes =
 abbrev pub is_scalar_value : ℕ → Bool
 is_scalar_value c = nat_lt c 0xD800 || (nat_le 0xE000 c && nat_lt c 0x110000)
 
--- The character that begins the bytes: the first candidate whose encoding they begin with.
+-- The character that begins the bytes, if any: the first candidate whose encoding is a prefix of
+-- them.
 unfoldable pub standing : Flavor → List ℕ → Option ℕ
 standing f bytes =
     find (λ c. is_scalar_value c && starts_with nat_eq bytes (encoding f (c ∷ []))) (candidates bytes)
 
--- How many bytes its encoding has, or 0.
+-- The length of the character's encoding, or 0 if there is no character.
 abbrev pub width_of : Flavor → Option ℕ → ℕ
 width_of f (Some c) = width f c
 width_of f None = 0
@@ -86,7 +87,7 @@ unfoldable pub lies_within : Flavor → List ℕ → ℕ → Bool
 lies_within f bytes i =
     list_any (λ j. nat_lt i (j + width_of f (standing f (drop j bytes)))) (range_with_len 0 i)
 
--- The mark of an offset, by the character there and whether the offset is in a stretch.
+-- The mark of an offset, from the character there and whether the offset is in an earlier stretch.
 abbrev pub mark_by : Option ℕ → Bool → List ℕ
 mark_by (Some c) within = c ∷ []
 mark_by None within = if within then [] else 0xFFFD ∷ []
@@ -94,16 +95,16 @@ mark_by None within = if within then [] else 0xFFFD ∷ []
 unfoldable pub mark : Flavor → List ℕ → ℕ → List ℕ
 mark f bytes i = mark_by (standing f (drop i bytes)) (lies_within f bytes i)
 
--- The lossy reading: the marks of all offsets, in their order.
+-- The lossy reading: the marks of all offsets, in order.
 unfoldable pub reading : Flavor → List ℕ → List ℕ
 reading f bytes = flat_map (mark f bytes) (range_with_len 0 (length bytes))
 
--- The length of its UTF-8, in bytes.
+-- The length of the lossy reading's UTF-8, in bytes.
 unfoldable pub lossy_length : Flavor → List ℕ → ℕ
 lossy_length f bytes = length (utf8 (reading f bytes))
 
--- The lenient lossy reading of bytes: their text if they are UTF-8 as a whole, and otherwise the
--- lossy reading.
+-- The lenient lossy reading: if the bytes as a whole are UTF-8, their text, and otherwise the lossy
+-- reading.
 abbrev pub IsLenientLossyReading : Flavor → List ℕ → List ℕ → Type 0
 IsLenientLossyReading f bytes text =
     IsUtf8Of text bytes ⊎ (((other : List ℕ) → ¬ (IsUtf8Of other bytes)) × (text ≡ reading f bytes))

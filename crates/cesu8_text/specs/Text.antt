@@ -1,9 +1,9 @@
--- Texts, and their UTF-8.
+-- Text as a list of Unicode scalar values, and its UTF-8.
 use Rattle.std.specs.Prelude.{◌≡◌, ℕ, ◌+◌, ◌/◌, ◌%◌, ◌<◌, ◌≤◌, ◌⊎◌, nat_lt, if◌then◌else◌, List, [], ◌∷◌}
 use Rattle.std.specs.List.{flat_map}
 
--- A Unicode scalar value: 0 to 10FFFF (hexadecimal, as all of these numbers), but no surrogate,
--- D800 to DFFF. (Unicode, "Unicode scalar value")
+-- A Unicode scalar value: 0 to 10FFFF without the surrogates D800 to DFFF. These and all numbers
+-- below are hexadecimal. (Unicode, "Unicode scalar value")
 abbrev pub IsScalarValue : ℕ → Type 0
 IsScalarValue c = (c < 0xD800) ⊎ ((0xE000 ≤ c) × (c < 0x110000))
 
@@ -12,7 +12,7 @@ abbrev pub IsText : List ℕ → Type 0
 IsText [] = Unit {0}
 IsText (c ∷ text) = IsScalarValue c × IsText text
 
--- A scalar value in UTF-8: one to four bytes, each continuation byte with six of its bits.
+-- The UTF-8 of a scalar value: one to four bytes, with six bits in each continuation byte.
 -- (Unicode, table "UTF-8 Bit Distribution"; RFC 3629)
 unfoldable pub utf8_of : ℕ → List ℕ
 utf8_of c =
@@ -23,10 +23,10 @@ utf8_of c =
     else
     (0xF0 + c / 0x40000) ∷ (0x80 + c / 0x1000 % 0x40) ∷ (0x80 + c / 0x40 % 0x40) ∷ (0x80 + c % 0x40) ∷ []
 
--- A text in UTF-8.
+-- The UTF-8 of a text.
 abbrev pub utf8 : List ℕ → List ℕ
 utf8 text = flat_map utf8_of text
 
--- The bytes are the UTF-8 of the text. Bytes are UTF-8 where they are that of some text.
+-- The bytes are the UTF-8 of the text. Bytes are UTF-8 if they are the UTF-8 of some text.
 abbrev pub IsUtf8Of : List ℕ → List ℕ → Type 0
 IsUtf8Of text bytes = IsText text × (utf8 text ≡ bytes)

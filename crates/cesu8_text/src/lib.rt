@@ -1,3 +1,3 @@
-//! What the codec is about, with no code: texts, their encodings, what bytes are decoded to, and
-//! the laws. `specs` has the definitions, and `proofs` what is proved of them.
+//! Definitions and lemmas for CESU-8 and Modified UTF-8, without code. `specs` defines text, the
+//! two encodings, what bytes decode to, and the laws; `proofs` proves them.
 #![tactic(auto)]

@@ -1,5 +1,5 @@
--- The length of an encoding, from the text's UTF-8: a character of four bytes takes two more, and in
--- MUTF-8 the character U+0000 one more.
+-- The length of an encoding, from the text's UTF-8: each four-byte character takes two bytes more,
+-- and in MUTF-8 each U+0000 one more.
 use Rattle.std.proofs.Common.{◌≡◌, ℕ, ◌+◌, ◌*◌, ◌≤◌, List, [], ◌∷◌, arith, length, length-append, sum_by}
 use Rattle.std.specs.Str.{chars, IsUtf8}
 use Rattle.std.proofs.lemmas.Bool.Decides.{nat_tests}
@@ -12,18 +12,18 @@ use Rattle.cesu8_text.proofs.StdUtf8.{IsUtf8Of_chars}
 use Rattle.cesu8_text.proofs.encoding.Encodings.{encoding_nil, encoding_cons}
 use Rattle.cesu8_text.proofs.encoding.Lengths.{length_bounds}
 
--- How many bytes an encoding has more than the UTF-8, for one byte of this: two for F0 to F7, which
+-- How many bytes longer the encoding is because of one byte of the UTF-8: two for F0 to F7, which
 -- leads four bytes that become six, and in MUTF-8 one for 00.
 abbrev pub growth_of : Flavor → ℕ → ℕ
 growth_of f b = weight_of (is_null f) b
 
--- The encoding of a character is longer than its UTF-8 by what that grows by.
+-- The encoding of a character is longer than its UTF-8 by the growth of its bytes.
 grows : (f : Flavor) (c : ℕ) → IsScalarValue c →
     length (encoding f (c ∷ [])) ≡ length (utf8_of c) + sum_by (growth_of f) (utf8_of c)
 unfolding encoding form units_of utf8_of
 grows f c scalar = grind (arith, nat_tests)
 
--- So is that of a text.
+-- The encoding of a text is longer than its UTF-8 by the growth of its bytes.
 length_encoding : (f : Flavor) (text : List ℕ) → IsText text →
     length (encoding f text) ≡ length (utf8 text) + sum_by (growth_of f) (utf8 text)
 length_encoding f [] is_text = grind (arith, encoding_nil)
@@ -37,10 +37,12 @@ length_encoding f (c ∷ text) is_text =
       length_encoding f text is_text.1,
     )
 
--- The same of the text that std's UTF-8 has, by its bytes, and that it is at most twice their number.
+-- For a string in std: the length of its encoding as a sum over its bytes, which is at most twice
+-- its length.
 pub record LengthByBytes (f : Flavor) (text bytes : List ℕ) : Type 0 where
   pub sum : length bytes + sum_by (growth_of f) bytes ≡ length (encoding f (chars text))
   pub most : length (encoding f (chars text)) ≤ 2 * length bytes
 
+-- Each string in std has such a length.
 pub length_by_bytes : (f : Flavor) (text bytes : List ℕ) → bytes ≡ text → IsUtf8 text → LengthByBytes f text bytes
 length_by_bytes f text bytes same is_utf8 = grind (arith, IsUtf8Of_chars, length_bounds, length_encoding)

@@ -1,4 +1,4 @@
--- The encoding of a text, from those of its scalar values.
+-- The encoding of a text is the concatenation of those of its scalar values.
 use Rattle.std.specs.Str.{chars}
 use Rattle.std.proofs.lemmas.Str.{chars-nil}
 use Rattle.std.proofs.Common.{◌≡◌, ℕ, List, [], ◌∷◌, ◌++◌, refl, ap, ◌∙◌}
@@ -12,7 +12,7 @@ pub encoding_nil : (f : Flavor) → encoding f [] ≡ []
 unfolding encoding
 encoding_nil f = refl
 
--- The same of the text that std reads.
+-- The encoding of an empty string is empty.
 pub encoding_of_empty : (f : Flavor) (bytes : List ℕ) → bytes ≡ [] → encoding f (chars bytes) ≡ []
 encoding_of_empty f bytes empty = rw (empty, chars-nil) (encoding_nil f)
 
@@ -22,7 +22,7 @@ unfolding encoding
 encoding_append f s t =
     ap (flat_map (form f)) (flat_map-append units_of s t) ∙ flat_map-append (form f) (units s) (units t)
 
--- The encoding of a text is that of its first scalar value, and then that of the others.
+-- The encoding of a text is that of its first scalar value, followed by that of the others.
 pub encoding_cons : (f : Flavor) (c : ℕ) (text : List ℕ) →
     encoding f (c ∷ text) ≡ encoding f (c ∷ []) ++ encoding f text
 encoding_cons f c text = encoding_append f (c ∷ []) text

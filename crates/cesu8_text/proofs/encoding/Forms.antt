@@ -1,11 +1,11 @@
--- The encoding of one scalar value, by its digits.
+-- The encoding of one scalar value as bytes, with its digits as variables.
 use Rattle.std.proofs.lemmas.Bool.Decides.{nat_tests}
 use Rattle.std.proofs.Common.{◌≡◌, ℕ, ◌+◌, ◌<◌, [], ◌∷◌, refl, arith, append-nil}
 use Rattle.cesu8_text.specs.Utf16.{units_of}
 use Rattle.cesu8_text.specs.Encoding.{Flavor, Mutf8, short_form, form, encoding}
 use Rattle.cesu8_text.proofs.text.Shapes.{IsTwo, IsThree, IsPair}
 
--- The encoding of one scalar value: of one byte, of two, of three, and as a surrogate pair.
+-- The encoding of a scalar value that takes one byte, two, three, or a surrogate pair.
 pub encoding_one : (f : Flavor) (c : ℕ) → c < 0x80 → encoding f (c ∷ []) ≡ short_form f c
 unfolding encoding form units_of
 encoding_one f c low = grind (arith, nat_tests, append-nil)
@@ -24,10 +24,10 @@ pub encoding_pair : (f : Flavor) (c w x y z : ℕ) → IsPair c w x y z →
 unfolding encoding form units_of
 encoding_pair f c w x y z digits = grind (arith, nat_tests)
 
--- The code unit 0 has two bytes in MUTF-8.
+-- MUTF-8 encodes the code unit 0 as two bytes.
 pub short_form_null : (u : ℕ) → u ≡ 0 → short_form Mutf8 u ≡ 0xC0 ∷ 0x80 ∷ []
 short_form_null u e = rw e refl
 
--- Every other code unit is its short form, as one byte.
+-- Every other code unit below 80 (hexadecimal) is encoded as itself.
 pub short_form_other : (f : Flavor) (u : ℕ) → (u ≡ 0 → ⊥) → short_form f u ≡ u ∷ []
 short_form_other f u other = grind (arith, nat_tests)

@@ -1,4 +1,5 @@
--- When a text needs encoding: by its UTF-8, and by its encoding.
+-- A text needs encoding if and only if its UTF-8 has a byte that changes, and if and only if its
+-- encoding is longer than its UTF-8.
 use Rattle.std.proofs.lemmas.Bool.Decides.{nat_tests}
 use Rattle.std.proofs.Common.{◌≡◌, ◌≢◌, ℕ, ◌<◌, ◌≤◌, ◌↔◌, List, [], ◌∷◌, ap, ⊎_elim, arith, length, length-append, get_or}
 use Rattle.std.specs.Str.{chars, IsUtf8}
@@ -12,23 +13,26 @@ use Rattle.cesu8_text.proofs.encoding.Encodings.{encoding_nil, encoding_cons}
 use Rattle.cesu8_text.proofs.encoding.Lengths.{change, length_bounds}
 use Rattle.cesu8_text.proofs.lists.Elements.{any_nil, any_here, any_there, any_cons, any_left, any_right, any_append}
 
+-- Bytes F0 to F7 (hexadecimal) lead four bytes.
 pub four_from : (b : ℕ) → 0xF0 ≤ b → b ≤ 0xF7 → IsFour b
 four_from b low high = grind (arith, nat_tests)
 
+-- A byte that leads four bytes changes in both encodings.
 pub changed_by_four : (f : Flavor) (b : ℕ) → IsFour b → IsChangedByte f b
 changed_by_four f b four = grind (arith, nat_tests)
 
--- A byte below F0 (hexadecimal) that in MUTF-8 is not 0 stays as it is.
+-- A byte below F0 (hexadecimal) is unchanged, except 0 in MUTF-8.
 pub unchanged : (f : Flavor) (b : ℕ) → b < 0xF0 → (f ≡ Mutf8 → b ≢ 0) → IsChangedByte f b → ⊥
 unchanged f b low not_null changed = grind (arith, nat_tests)
 
--- A scalar value is encoded otherwise exactly where its UTF-8 has a byte that changes, and then it is the first.
+-- A scalar value is encoded otherwise than in UTF-8 if and only if its UTF-8 has a byte that
+-- changes.
 shows : (f : Flavor) (c : ℕ) → IsScalarValue c → Any (IsChangedByte f) (utf8_of c) ↔ IsEncodedOtherwise f c
 unfolding utf8_of
 shows f c scalar =
     (grind (arith, nat_tests), λ needs. (0, get_or (utf8_of c) 0 0, grind (arith, nat_tests), grind (arith, nat_tests), grind (arith, nat_tests)))
 
--- Bytes of UTF-8 show whether their text needs encoding.
+-- A text needs encoding if and only if its UTF-8 has a byte that changes.
 pub shows_need : (f : Flavor) (text : List ℕ) → IsText text → Any (IsChangedByte f) (utf8 text) ↔ NeedsEncoding f text
 shows_need f [] is_text = grind (arith, any_nil (IsChangedByte f), any_nil (IsEncodedOtherwise f))
 shows_need f (c ∷ text) is_text =
@@ -54,7 +58,7 @@ encoding_same f (c ∷ text) is_text no_need =
       encoding_same f text is_text.1,
     )
 
--- The encoding of a text that needs it is longer than the UTF-8.
+-- The encoding of a text that needs encoding is longer than its UTF-8.
 pub encoding_longer : (f : Flavor) (text : List ℕ) → IsText text → NeedsEncoding f text →
     length (utf8 text) < length (encoding f text)
 encoding_longer f [] is_text needs = absurd (any_nil _ needs)
@@ -69,29 +73,29 @@ encoding_longer f (c ∷ text) is_text needs =
       encoding_longer f text is_text.1,
     )
 
--- The same of the text that std's UTF-8 has.
+-- The lemmas above for a string in std, whose bytes are UTF-8.
 module _ (f : Flavor) (bytes : List ℕ) (is_utf8 : IsUtf8 bytes) where
-  -- the bytes show whether their text needs encoding
+  -- Its bytes decide whether it needs encoding.
   pub needs_by_bytes : Any (IsChangedByte f) bytes ↔ NeedsEncoding f (chars bytes)
   needs_by_bytes =
       let of_chars = IsUtf8Of_chars bytes is_utf8 in rw of_chars.1 at (shows_need f (chars bytes) of_chars.0)
 
-  -- so does a test for such a byte
+  -- A test for a byte that changes decides whether it needs encoding.
   pub needs_by_test : (R : Type 0) → R ↔ Any (IsChangedByte f) bytes → R ↔ NeedsEncoding f (chars bytes)
   needs_by_test R test = ((λ r. needs_by_bytes.0 (test.0 r)), (λ needs. test.1 (needs_by_bytes.1 needs)))
 
-  -- the encoding of a text that needs none is the bytes
+  -- If it needs no encoding, its encoding is its bytes.
   pub encoding_is_bytes : (NeedsEncoding f (chars bytes) → ⊥) → encoding f (chars bytes) ≡ bytes
   encoding_is_bytes no_need = grind (arith, IsUtf8Of_chars, encoding_same)
 
-  -- the encoding of a text that needs it is not the bytes
+  -- If it needs encoding, its encoding is not its bytes.
   pub encoding_is_not_bytes : NeedsEncoding f (chars bytes) → encoding f (chars bytes) ≡ bytes → ⊥
   encoding_is_not_bytes needs equal =
       grind (arith, IsUtf8Of_chars bytes is_utf8, encoding_longer f (chars bytes), ap length equal)
 
-  -- an encoding that is as long as the bytes is the bytes
+  -- If its encoding is as long as its bytes, they are equal.
   pub encoding_as_long : length (encoding f (chars bytes)) ≡ length bytes → encoding f (chars bytes) ≡ bytes
   encoding_as_long as_long = grind (arith, IsUtf8Of_chars, encoding_is_bytes, encoding_longer)
 
--- Whether the encoding is the bytes, by whether the text needs it.
+-- Whether the encoding equals the bytes, by whether the string needs encoding.
 pub ruleset encoding_by_need = (encoding_is_bytes, encoding_is_not_bytes)

@@ -1,4 +1,5 @@
--- The byte patterns of encoded characters: what bytes that begin with one look like.
+-- The byte patterns of encoded characters: the first bytes, given the character that they begin
+-- with.
 use Rattle.std.proofs.Common.{◌≡◌, ℕ, ◌+◌, ◌<◌, ◌≤◌, List, refl, arith, length, get_or}
 use Rattle.std.proofs.lemmas.Bool.{cases_eq}
 use Rattle.cesu8_text.specs.Encoding.{Flavor, Mutf8}
@@ -6,7 +7,7 @@ use Rattle.cesu8_text.specs.Reading.{BeginsWith}
 use Rattle.cesu8_text.proofs.text.Shapes.{IsTwo, IsThree, IsPair, Shape, one, two, three, pair, shape}
 use Rattle.cesu8_text.proofs.encoding.Forms.{encoding_one, encoding_two, encoding_three, encoding_pair, short_form_null, short_form_other}
 
--- The encoding of c, and more, by its bytes.
+-- The bytes begin with the pattern of the encoded character c, one case for each length.
 pub data Pattern (f : Flavor) (bytes : List ℕ) (c : ℕ) : Type 0 where
   of_one : get_or bytes 0 0 ≡ c → c < 0x80 → (f ≡ Mutf8 → 0 < c) → Pattern f bytes c
   of_null : f ≡ Mutf8 → c ≡ 0 → get_or bytes 0 0 ≡ 0xC0 → get_or bytes 1 0 ≡ 0x80 → 2 ≤ length bytes → Pattern f bytes c
@@ -18,7 +19,7 @@ pub data Pattern (f : Flavor) (bytes : List ℕ) (c : ℕ) : Type 0 where
       get_or bytes 2 0 ≡ 0x80 + x → get_or bytes 3 0 ≡ 0xED → get_or bytes 4 0 ≡ 0xB0 + y → get_or bytes 5 0 ≡ 0x80 + z →
       6 ≤ length bytes → Pattern f bytes c
 
--- Bytes that begin with a character have its pattern.
+-- Bytes that begin with an encoded character have its pattern.
 pub pattern : (f : Flavor) (bytes : List ℕ) (c : ℕ) (rest : List ℕ) → BeginsWith f bytes c rest → Pattern f bytes c
 pattern f bytes c rest begins = by (shape c begins.scalar)
   where

@@ -1,4 +1,5 @@
--- Bytes begin with one encoded character at most, and what follows a text in an encoding is one too.
+-- Bytes begin with at most one encoded character, so if a prefix of an encoding is an encoding, the
+-- rest is one too.
 use Rattle.std.proofs.lemmas.Bool.Decides.{nat_tests}
 use Rattle.std.proofs.Common.{◌≡◌, ℕ, ◌<◌, List, [], ◌∷◌, ◌++◌, sym, ap, ◌∙◌, arith, length, append_assoc, length-append}
 use Rattle.std.proofs.lemmas.List.{append_cancel_left}
@@ -9,13 +10,13 @@ use Rattle.cesu8_text.specs.Reading.{NoneBegins, BeginsWith, IsStrictReading, Ha
 use Rattle.cesu8_text.proofs.encoding.Encodings.{encoding_nil, encoding_cons}
 use Rattle.cesu8_text.proofs.encoding.Lengths.{length_of_character}
 
--- One character at most begins the bytes,
+-- Two characters whose encodings begin the same bytes are equal.
 same_first : (f : Flavor) (c d : ℕ) (r q : List ℕ) → IsScalarValue c → IsScalarValue d →
     encoding f (c ∷ []) ++ r ≡ encoding f (d ∷ []) ++ q → c ≡ d
 unfolding encoding form units_of
 same_first f c d r q scalar other_scalar same = grind (arith, nat_tests)
 
--- and what follows it is one too.
+-- The bytes after them are equal too.
 pub same_character : (f : Flavor) (bytes : List ℕ) (c d : ℕ) (r q : List ℕ) → BeginsWith f bytes c r → BeginsWith f bytes d q →
     (c ≡ d) × (r ≡ q)
 same_character f bytes c d r q begins other_begins =
@@ -23,12 +24,12 @@ same_character f bytes c d r q begins other_begins =
     let first = same_first f c d r q begins.scalar other_begins.scalar whole in
     (first, append_cancel_left (encoding f (d ∷ [])) r q (rw first at whole))
 
--- What follows a text in an encoding is the encoding of another.
+-- The bytes are the encoding of some text.
 pub record Rest (f : Flavor) (rest : List ℕ) : Type 0 where
   pub text : List ℕ
   pub reading : IsStrictReading f rest text
 
--- an encoding that begins as that of c ∷ text does
+-- If an encoding begins with the encoding of a text, what follows is an encoding.
 pub after_text : (f : Flavor) (text whole rest : List ℕ) → IsText text → IsText whole →
     encoding f whole ≡ encoding f text ++ rest → Rest f rest
 after_text f [] whole rest is_text whole_is_text same =
@@ -46,11 +47,13 @@ after_text f (c ∷ text) (d ∷ whole) rest is_text whole_is_text same =
       append_assoc,
     ))
 
+-- Bytes that begin with no character have no strict reading, unless there are none.
 none_reads : (f : Flavor) (rest : List ℕ) → 0 < length rest → NoneBegins f rest → HasNoStrictReading f rest
 none_reads f rest some none_begins [] reads = grind (arith, encoding_nil)
 none_reads f rest some none_begins (c ∷ text) reads = grind (arith, encoding_cons)
 
--- Where none begins what follows a text, the whole is no encoding.
+-- Bytes that begin with an encoded text are no encoding if more bytes follow and these begin with
+-- no character.
 pub no_reading : (f : Flavor) (bytes text rest : List ℕ) → IsText text → bytes ≡ encoding f text ++ rest → 0 < length rest →
     NoneBegins f rest → HasNoStrictReading f bytes
 no_reading f bytes text rest is_text bytes_are some none_begins whole reads =

@@ -1,4 +1,5 @@
--- What is written character by character compares as the code units of the texts do, so encodings do.
+-- If a format writes a text character by character and keeps the order of characters, texts compare
+-- as their code units do. Both encodings are such formats.
 use Rattle.std.proofs.Common.{◌≡◌, ◌≢◌, ℕ, ◌<◌, ◌≤◌, ◌⊎◌, List, [], ◌∷◌, ◌++◌, ap, inl, arith}
 use Rattle.std.specs.List.{All, flat_map}
 use Rattle.std.proofs.lemmas.List.Elements.{All-head, All-tail}
@@ -13,21 +14,22 @@ use Rattle.cesu8_text.proofs.encoding.Encodings.{encoding_nil, encoding_cons}
 use Rattle.cesu8_text.proofs.reading.EncodedTexts.{encoding_injective}
 use Rattle.cesu8_text.proofs.order.Below.{below_after, compares_as, same_answer}
 
--- The code units of c come first: a surrogate pair is below E000 to FFFF.
+-- The code units of c are below those of d: a surrogate pair is below E000 to FFFF.
 abbrev pub Precedes : ℕ → ℕ → Type 0
 Precedes c d = ((c < d) × ((c < 0xE000) ⊎ ((d < 0x10000) ⊎ (0x10000 ≤ c)))) ⊎ ((0x10000 ≤ c) × (0xE000 ≤ d) × (d < 0x10000))
 
+-- Of two different characters, the one with the lower code units precedes the other.
 precedes : (c d : ℕ) (us vs : List ℕ) → IsScalarValue c → IsScalarValue d → c ≢ d →
     IsBelow (units_of c ++ us) (units_of d ++ vs) → Precedes c d
 unfolding units_of
 precedes c d us vs scalar other_scalar differ below = grind (arith, nat_tests)
 
--- No character is without code units.
+-- Each character has a code unit.
 not_below_nothing : (c : ℕ) (us : List ℕ) → IsBelow (units_of c ++ us) [] → ⊥
 unfolding units_of
 not_below_nothing c us below = grind (arith, nat_tests)
 
--- Behind equal prefixes the rest decides.
+-- What follows a common prefix is below if the whole is.
 after_front : (front us vs : List ℕ) → IsBelow (front ++ us) (front ++ vs) → IsBelow us vs
 after_front [] us vs below = below
 after_front (u ∷ front) us vs below = grind (arith, after_front front us vs)
@@ -38,7 +40,8 @@ unfolding encoding
 same_units s t is_text other_is_text same =
     encoding_injective Cesu8 s t is_text other_is_text (ap (flat_map (form Cesu8)) same)
 
--- A text is written character by character, and what precedes is written below, whatever follows.
+-- Text is written character by character, and a character that precedes another in UTF-16 is
+-- written as smaller bytes, whatever follows.
 pub record KeepsOrder (Fits : ℕ → Type 0) (write : List ℕ → List ℕ) : Type 0 where
   pub nil : write [] ≡ []
   pub cons : (c : ℕ) (text : List ℕ) → write (c ∷ text) ≡ write (c ∷ []) ++ write text
@@ -47,7 +50,7 @@ pub record KeepsOrder (Fits : ℕ → Type 0) (write : List ℕ → List ℕ) : 
       IsBelow (write (c ∷ []) ++ xs) (write (d ∷ []) ++ ys)
 
 module _ (Fits : ℕ → Type 0) (write : List ℕ → List ℕ) (keeps : KeepsOrder Fits write) where
-  -- A text whose code units are below is written below.
+  -- If the code units of a text are below those of another, what is written is below too.
   written_below : (s t : List ℕ) → IsText s → IsText t → All Fits s → IsBelow (units s) (units t) → IsBelow (write s) (write t)
   written_below [] [] is_text other_is_text fits below = absurd below
   written_below [] (d ∷ t) is_text other_is_text fits below = rw (keeps.nil, keeps.cons d t) (keeps.some d (write t))
@@ -65,14 +68,14 @@ module _ (Fits : ℕ → Type 0) (write : List ℕ → List ℕ) (keeps : KeepsO
         written_below s t is_text.1 other_is_text.1 (All-tail Fits c s fits),
       )
 
-  -- So what is written compares as the code units.
+  -- What is written compares as the code units do.
   pub compares_by_units : (s t : List ℕ) → IsText s → IsText t → All Fits s → All Fits t →
       ComparesAs (write s) (write t) (units s) (units t)
   compares_by_units s t is_text other_is_text fits other_fits =
       compares_as (write s) (write t) (units s) (units t) (written_below s t is_text other_is_text fits)
       (λ same. ap write (same_units s t is_text other_is_text same)) (written_below t s other_is_text is_text other_fits)
 
--- The encoding of a character that precedes another is below, if in MUTF-8 it is not U+0000.
+-- Both encodings keep the order, if in MUTF-8 no character is U+0000.
 encodings_keep_order : (f : Flavor) → KeepsOrder (λ c. f ≡ Mutf8 → c ≢ 0) (encoding f)
 unfolding encoding form units_of
 encodings_keep_order f = record {
@@ -82,29 +85,29 @@ encodings_keep_order f = record {
   less = λ c d xs ys scalar other_scalar fits first. grind (arith, nat_tests);
 }
 
--- Encodings compare as the code units do, in CESU-8 for all texts,
+-- In CESU-8, the encodings of all texts compare as their code units.
 pub order_in_cesu8 : OrderInCesu8
 order_in_cesu8 s t is_text other_is_text =
     compares_by_units _ (encoding Cesu8) (encodings_keep_order Cesu8) s t is_text other_is_text
     (λ _ _ _ mutf8. absurd (cc)) (λ _ _ _ mutf8. absurd (cc))
 
--- and in MUTF-8 for texts without U+0000.
+-- In MUTF-8, the encodings of texts without U+0000 compare as their code units.
 pub order_in_mutf8 : OrderInMutf8
 order_in_mutf8 s t is_text other_is_text no_null other_no_null =
     compares_by_units _ (encoding Mutf8) (encodings_keep_order Mutf8) s t is_text other_is_text
     (λ k c inside _. no_null k c inside) (λ k c inside _. other_no_null k c inside)
 
--- So std compares keys as the code units.
+-- std's `cmp` of CESU-8 encodings is the order of the code units.
 pub key_order : KeyOrder
 key_order s t is_text other_is_text =
     same_answer (encoding Cesu8 s) (encoding Cesu8 t) (units s) (units t) (order_in_cesu8 s t is_text other_is_text)
 
--- C0 80 is above 41.
+-- The counterexample in MUTF-8: C0 80 is above 41.
 pub null_out_of_order : NullOutOfOrder
 unfolding units_of form encoding
 null_out_of_order = (inl (omega arith), inl (omega arith))
 
--- ED A0 80 ED B0 80 is below EF BF BF.
+-- The counterexample for scalar values: ED A0 80 ED B0 80 is below EF BF BF.
 pub scalars_out_of_order : ScalarsOutOfOrder
 unfolding units_of form encoding
 scalars_out_of_order = (inl (omega arith), λ f. inl (omega arith))

@@ -1,4 +1,4 @@
--- What a cutting costs: the greedy one costs less than every other.
+-- The greedy cutting replaces fewer bytes than every other cutting of the same bytes.
 use Rattle.std.proofs.Common.{◌≡◌, ℕ, zero, suc, ◌+◌, ◌-◌, ◌*◌, ◌<◌, ◌≤◌, ◌⊎◌, List, [], ◌∷◌, ◌++◌, refl, sym, ap, ◌∙◌, inl, arith, length, drop, length-append}
 use Rattle.std.proofs.Math.Seq.{drop-append_seam}
 use Rattle.cesu8_text.specs.Utf16.{units_of}
@@ -13,22 +13,22 @@ use Rattle.cesu8_text.proofs.reading.Inside.{none_inside}
 use Rattle.cesu8_text.proofs.reading.Greedy.{places}
 use Rattle.cesu8_text.proofs.reading.Cuttings.{greedy_cutting}
 
--- a piece has a byte at least
+-- A piece has at least one byte.
 some_bytes : (f : Flavor) (piece : Piece) → IsPiece piece → 0 < length (bytes_of_piece f piece)
 some_bytes f piece is_piece = grind (arith, length_of_character)
 
--- so only the cutting without pieces has no bytes
+-- Only the empty cutting has no bytes.
 no_pieces : (f : Flavor) (pieces : List Piece) → ArePieces pieces → length (bytes_of f pieces) ≡ 0 → pieces ≡ []
 no_pieces f [] are_pieces empty = refl
 no_pieces f (piece ∷ pieces) are_pieces empty = grind (arith, some_bytes f piece, length-append)
 
--- What a cutting has after n bytes: a cutting of the rest, and each of the n bytes is replaced.
+-- The cutting replaces each of the first n bytes, and the other pieces are a cutting of the rest.
 record After (f : Flavor) (n : ℕ) (pieces : List Piece) : Type 0 where
   left : List Piece
   cuts : IsCutting f (drop n (bytes_of f pieces)) left
   costs : cost pieces ≡ n + cost left
 
--- Where no character stands at the first n offsets, a cutting replaces each of the n bytes.
+-- If no character begins at the first n offsets, a cutting replaces each of these n bytes.
 after : (f : Flavor) (n : ℕ) (pieces : List Piece) → ArePieces pieces → n ≤ length (bytes_of f pieces) →
     ((j : ℕ) → j < n → NoneBegins f (drop j (bytes_of f pieces))) → After f n pieces
 after f zero pieces are_pieces long none_begins =
@@ -40,7 +40,7 @@ after f (suc n) (Replaced b ∷ pieces) are_pieces long none_begins =
     let more = after f n pieces are_pieces.1 (omega arith) (λ j before. none_begins (suc j) (omega arith)) in
     record { left = more.left; cuts = more.cuts; costs = omega (arith, more.costs) }
 
--- Every cutting of the bytes of a greedy one is it, or costs more.
+-- Every cutting of the same bytes as a greedy one is equal to it or costs more.
 least : (f : Flavor) (greedy other : List Piece) → ArePieces greedy → IsGreedy f greedy → IsCutting f (bytes_of f greedy) other →
     (other ≡ greedy) ⊎ (cost greedy < cost other)
 least f [] other are_pieces is_greedy cuts = inl (no_pieces f other cuts.0 (ap length cuts.1))
@@ -77,18 +77,19 @@ fewest f bytes =
           (cuts.0, cuts.1 ∙ sym cutting.cuts.1),
     )
 
--- U+FFFD is encoded in three bytes
+-- U+FFFD is encoded as three bytes.
 width_of_replacement : (f : Flavor) → length (encoding f (0xFFFD ∷ [])) ≡ 3
 unfolding encoding form units_of
 width_of_replacement f = refl
 
--- What a cutting costs follows from its bytes and its text: each replaced byte is encoded in two more.
+-- The cost of a cutting follows from its bytes and its text: each replaced byte becomes the three
+-- bytes of U+FFFD, two more.
 cost_by_text : (f : Flavor) (pieces : List Piece) → length (bytes_of f pieces) + 2 * cost pieces ≡ length (encoding f (text_of pieces))
 cost_by_text f [] = grind (arith, encoding_nil)
 cost_by_text f (piece ∷ pieces) =
     grind (arith, width_of_replacement, encoding_cons, length-append, cost_by_text f pieces)
 
--- So a cutting whose text is the lossy reading is greedy.
+-- A cutting whose text is the lossy reading is greedy.
 pub greedy_by_text : (f : Flavor) (bytes : List ℕ) (pieces : List Piece) → IsCutting f bytes pieces →
     text_of pieces ≡ reading f bytes → IsGreedy f pieces
 greedy_by_text f bytes pieces cuts reads =

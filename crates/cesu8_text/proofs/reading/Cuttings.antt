@@ -1,4 +1,4 @@
--- How long the text of a cutting is, and that every list of bytes has a greedy one.
+-- Bounds on the length of a cutting's text, and the construction of a greedy cutting for any bytes.
 use Rattle.std.proofs.Common.{◌≡◌, ℕ, suc, zero, ◌*◌, ◌≤◌, List, [], ◌∷◌, Option, Some, None, refl, ap, arith, length, drop, length-append}
 use Rattle.cesu8_text.specs.Text.{utf8}
 use Rattle.cesu8_text.specs.Encoding.{Flavor}
@@ -9,14 +9,15 @@ use Rattle.cesu8_text.proofs.reading.Standing.{standing_begins, standing_none}
 use Rattle.cesu8_text.proofs.reading.Decoding.{shorter, length_utf8_replaced}
 use Rattle.cesu8_text.proofs.reading.Greedy.{places}
 
--- A character's UTF-8 is no longer than its piece, and U+FFFD has three bytes for one.
+-- A character's UTF-8 is no longer than its encoding, and U+FFFD is three bytes for one replaced
+-- byte.
 pieces_length : (f : Flavor) (pieces : List Piece) → ArePieces pieces →
     length (utf8 (text_of pieces)) ≤ 3 * length (bytes_of f pieces)
 pieces_length f [] are_pieces = omega arith
 pieces_length f (piece ∷ pieces) are_pieces =
     grind (arith, pieces_length f pieces are_pieces.1, length_of_character f, length_utf8_replaced, length-append)
 
--- The text of a cutting has at most three times the bytes that are cut.
+-- The text of a cutting is at most three times as long as the bytes.
 pub cutting_length : (f : Flavor) (bytes : List ℕ) (pieces : List Piece) → IsCutting f bytes pieces →
     length (utf8 (text_of pieces)) ≤ 3 * length bytes
 cutting_length f bytes pieces cuts = omega (arith, pieces_length f pieces cuts.0, ap length cuts.1)
@@ -27,7 +28,8 @@ pub record GreedyCutting (f : Flavor) (bytes : List ℕ) : Type 0 where
   pub cuts : IsCutting f bytes pieces
   pub greedy : IsGreedy f pieces
 
--- a cutting of at most n bytes, by what stands at the front: a character, or a byte that is replaced
+-- The greedy cutting of at most n bytes takes the character that begins them, or else replaces one
+-- byte.
 cutting_up_to : (f : Flavor) (n : ℕ) (bytes : List ℕ) → length bytes ≤ n → GreedyCutting f bytes
 cutting_up_to f n [] long = record { pieces = []; cuts = (tt, refl); greedy = tt }
 cutting_up_to f zero (b ∷ bytes) long = absurd (omega arith)
@@ -45,11 +47,12 @@ cutting_up_to f (suc n) (b ∷ bytes) long = by (cutting_up_to f n) (standing f 
         let after = cutting (drop (width f c) (b ∷ bytes)) (omega arith) in
         record { pieces = Character c ∷ after.pieces; cuts = grind arith; greedy = after.greedy }
 
--- Every list of bytes has a greedy cutting.
+-- All bytes have a greedy cutting.
 pub greedy_cutting : (f : Flavor) (bytes : List ℕ) → GreedyCutting f bytes
 greedy_cutting f bytes = cutting_up_to f (length bytes) bytes (omega arith)
 
--- So what bounds the text of a cutting bounds the lossy reading.
+-- The lossy reading is at most three times as long as the bytes, as it is the text of the greedy
+-- cutting.
 pub reading_length : (f : Flavor) (bytes : List ℕ) → length (utf8 (reading f bytes)) ≤ 3 * length bytes
 reading_length f bytes =
     let cutting = greedy_cutting f bytes in

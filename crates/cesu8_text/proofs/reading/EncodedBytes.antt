@@ -1,4 +1,4 @@
--- The bytes of an encoding: below F0 (hexadecimal), and in MUTF-8 none is 0.
+-- Which bytes an encoding can have: those below F0 (hexadecimal), and in MUTF-8 not 0.
 use Rattle.std.proofs.lemmas.Bool.Decides.{nat_tests}
 use Rattle.std.proofs.Common.{◌≡◌, ◌≢◌, ℕ, ◌<◌, List, [], ◌∷◌, arith}
 use Rattle.std.specs.List.{All, Any}
@@ -12,28 +12,28 @@ use Rattle.cesu8_text.proofs.encoding.Encodings.{encoding_nil, encoding_cons}
 use Rattle.cesu8_text.proofs.encoding.NeedsEncoding.{unchanged, shows_need, encoding_same}
 use Rattle.cesu8_text.proofs.reading.EncodedTexts.{encoding_injective}
 
--- A byte that an encoding can have: below F0 (hexadecimal), and in MUTF-8 not 0.
+-- A byte that an encoding can have.
 pub record IsEncodedByte (f : Flavor) (b : ℕ) : Type 0 where
   pub low : b < 0xF0
   pub some : f ≡ Mutf8 → b ≢ 0
 
--- of one character
+-- The encoding of one character has only such bytes.
 bytes_of_one : (f : Flavor) (c : ℕ) → IsScalarValue c → All (IsEncodedByte f) (encoding f (c ∷ []))
 unfolding encoding form units_of
 bytes_of_one f c scalar = grind (arith, nat_tests)
 
--- Each byte of an encoding is such a byte.
+-- The encoding of a text has only such bytes.
 pub encoded_bytes : (f : Flavor) (text : List ℕ) → IsText text → All (IsEncodedByte f) (encoding f text)
 encoded_bytes f [] is_text = grind (arith, encoding_nil)
 encoded_bytes f (c ∷ text) is_text =
     rw (encoding_cons f c text) (All-append (IsEncodedByte f) _ _ (bytes_of_one f c is_text.0) (encoded_bytes f text is_text.1))
 
--- No byte of an encoding shows a change.
+-- No byte of an encoding is one that the encoding changes.
 pub none_changed : (f : Flavor) (text : List ℕ) → IsText text → Any (IsChangedByte f) (encoding f text) → ⊥
 none_changed f text is_text found =
     grind (arith, unchanged, encoded_bytes f text is_text found.0 found.1)
 
--- So UTF-8 that is an encoding is that of its own text.
+-- Bytes that are both UTF-8 and an encoding decode to the same text as either.
 pub same_in_both : SameText
 same_in_both f bytes text other is_utf8_of reads =
     let none : Any (IsChangedByte f) (utf8 text) → ⊥ =

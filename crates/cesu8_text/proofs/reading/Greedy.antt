@@ -1,4 +1,4 @@
--- Every greedy cutting has the lossy reading for its text.
+-- The text of every greedy cutting is the lossy reading.
 use Rattle.std.proofs.Common.{◌≡◌, List, [], ◌∷◌, sym, ap, ◌∙◌, arith}
 use Rattle.cesu8_text.specs.Encoding.{Flavor}
 use Rattle.cesu8_text.specs.Reading.{reading}
@@ -6,7 +6,7 @@ use Rattle.cesu8_text.specs.Cutting.{Piece, ArePieces, bytes_of, text_of, IsGree
 use Rattle.cesu8_text.specs.Laws.{Places}
 use Rattle.cesu8_text.proofs.reading.Steps.{reading_nil, reading_character, reading_replaced}
 
--- by the pieces, from the first on
+-- By induction over the pieces.
 greedy_reading : (f : Flavor) (pieces : List Piece) → ArePieces pieces → IsGreedy f pieces →
     text_of pieces ≡ reading f (bytes_of f pieces)
 greedy_reading f [] are_pieces is_greedy = sym (reading_nil f)

@@ -1,4 +1,5 @@
--- No encoded character begins inside another.
+-- No encoded character begins inside another, because none begins with a byte that can follow the
+-- first.
 use Rattle.std.proofs.lemmas.Bool.Decides.{nat_tests}
 use Rattle.std.proofs.lemmas.Grind.{common_steps}
 use Rattle.std.proofs.Common.{◌≡◌, ℕ, suc, ◌<◌, ◌≤◌, ◌⊎◌, List, arith, drop, get_or}
@@ -7,22 +8,23 @@ use Rattle.cesu8_text.specs.Encoding.{Flavor, form, encoding}
 use Rattle.cesu8_text.specs.Reading.{BeginsWith, StandsAt, width}
 use Rattle.cesu8_text.specs.Patterns.{IsContinuation}
 
--- a byte that no character begins with: a continuation byte, or ED before the end of a low surrogate
+-- A byte that follows the first of a character: a continuation byte, or the ED that begins a low
+-- surrogate.
 abbrev IsInner : List ℕ → ℕ → Type 0
 IsInner bytes j = IsContinuation (get_or bytes j 0) ⊎ ((get_or bytes j 0 ≡ 0xED) × (0xB0 ≤ get_or bytes (suc j) 0))
 
--- no character begins with one
+-- No character begins with such a byte.
 inner_begins_none : (f : Flavor) (bytes : List ℕ) (c : ℕ) (rest : List ℕ) → IsInner bytes 0 → BeginsWith f bytes c rest → ⊥
 unfolding encoding form units_of
 inner_begins_none f bytes c rest inner begins = grind (arith, nat_tests)
 
--- each byte of a character but the first is one
+-- Each byte of a character after the first is such a byte.
 inner_at : (f : Flavor) (bytes : List ℕ) (c j : ℕ) (rest : List ℕ) → BeginsWith f bytes c rest → 0 < j → j < width f c →
     IsInner bytes j
 unfolding encoding form units_of
 inner_at f bytes c j rest begins later inside = grind (arith, nat_tests)
 
--- Where a character stands at the front, none stands at a later offset of its stretch.
+-- If a character begins the bytes, none begins at a later offset of its stretch.
 pub none_inside : (f : Flavor) (bytes : List ℕ) (c d j : ℕ) (rest : List ℕ) → BeginsWith f bytes c rest → StandsAt f bytes j d →
     0 < j → j < width f c → ⊥
 none_inside f bytes c d j rest begins stands later inside =

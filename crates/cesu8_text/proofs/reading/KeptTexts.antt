@@ -1,4 +1,4 @@
--- What is known of the texts of bytes, by what a call takes.
+-- What strict and lossy decoding return, by the input that a mode keeps unchanged.
 use Rattle.std.proofs.Common.{arith, ◌≡◌, ℕ, ◌↔◌, ◌⊎◌, List, refl, sym, ◌∙◌}
 use Rattle.std.specs.Str.{chars, IsUtf8}
 use Rattle.cesu8_text.specs.Text.{IsUtf8Of}
@@ -11,12 +11,12 @@ use Rattle.cesu8_text.proofs.reading.EncodedTexts.{encoding_injective}
 use Rattle.cesu8_text.proofs.reading.Borrowing.{unchanged_reading}
 use Rattle.cesu8_text.proofs.reading.LossyBorrowing.{unchanged_lossy}
 
--- Bytes have one strict reading.
+-- Bytes have at most one strict reading.
 pub strict_only : (f : Flavor) (bytes text other : List ℕ) → IsStrictReading f bytes text → IsStrictReading f bytes other → other ≡ text
 strict_only f bytes text other reads also =
     encoding_injective f other text also.0 reads.0 (also.1 ∙ sym reads.1)
 
--- To a call that takes the encoding alone, UTF-8 in which nothing changes is that of its characters.
+-- In strict mode, UTF-8 in which nothing changes decodes to its own characters.
 pub encoding_texts : (f : Flavor) (bytes : List ℕ) →
     KnowsTexts f bytes (IsUnchangedUtf8 f bytes) (IsStrictReading f bytes) (λ text. text ≡ reading f bytes)
 encoding_texts f bytes = record {
@@ -27,15 +27,17 @@ encoding_texts f bytes = record {
   other = λ not_kept. grind arith;
 }
 
--- Either the text of bytes that are UTF-8, or of others what else they are read as.
+-- A text that is the input's own if the input is UTF-8, and otherwise has the property P.
 module _ (bytes text : List ℕ) (P : Type 0) where
+  -- If the input is UTF-8, such a text is its characters.
   by_chars : IsUtf8 bytes → (IsUtf8Of text bytes ⊎ (((other : List ℕ) → ¬ (IsUtf8Of other bytes)) × P)) ↔ text ≡ chars bytes
   by_chars is_utf8 = grind (arith, IsUtf8Of_chars, chars_utf8)
 
+  -- If the input is not UTF-8, such a text is one with the property.
   by_other : ¬ (IsUtf8 bytes) → (IsUtf8Of text bytes ⊎ (((other : List ℕ) → ¬ (IsUtf8Of other bytes)) × P)) ↔ P
   by_other not_utf8 = grind (arith, not_utf8_of bytes not_utf8)
 
--- To a call that takes UTF-8 as a whole, or else the encoding, so is all UTF-8.
+-- In lenient mode, all UTF-8 decodes to its own characters.
 pub lenient_texts : (f : Flavor) (bytes : List ℕ) →
     KnowsTexts f bytes (IsUtf8 bytes) (IsLenientReading f bytes) (IsLenientLossyReading f bytes)
 lenient_texts f bytes = record {

@@ -1,5 +1,5 @@
--- In UTF-8 a replaced byte only lengthens the lossy reading, so that equals its input only where no byte
--- of the input is written otherwise.
+-- The lossy reading equals the input only if the input is UTF-8 in which no byte changes, because
+-- every replaced byte of UTF-8 makes the result longer.
 use Rattle.std.proofs.Common.{◌≡◌, ℕ, ◌+◌, ◌<◌, ◌≤◌, ◌⊎◌, ◌≢◌, List, [], ◌∷◌, ◌++◌, arith, length, length-append}
 use Rattle.std.proofs.lemmas.Bool.Decides.{nat_tests}
 use Rattle.std.specs.Str.{chars, IsUtf8}
@@ -16,35 +16,41 @@ use Rattle.cesu8_text.proofs.encoding.NeedsEncoding.{needs_by_bytes}
 use Rattle.cesu8_text.proofs.reading.EncodedTexts.{reading_encoding}
 use Rattle.cesu8_text.proofs.reading.Decoding.{lossy_length_character, lossy_length_replaced}
 
--- The text of the lossy reading has the bytes of its length.
+-- A string whose characters are the lossy reading is as long as its UTF-8.
 pub length_of_reading : (f : Flavor) (bytes text : List ℕ) → IsUtf8 text → chars text ≡ reading f bytes →
     length text ≡ lossy_length f bytes
 unfolding lossy_length
 length_of_reading f bytes text is_utf8 chars_are = grind (arith, IsUtf8Of_chars)
 
--- A byte that begins none is replaced: a continuation byte, a lead byte of four, and in MUTF-8 the byte 0.
+-- A byte of UTF-8 with which no encoded character begins: a continuation byte, the lead byte of
+-- four, and in MUTF-8 the byte 0.
 abbrev BeginsNone : Flavor → ℕ → Type 0
 BeginsNone f b = ((f ≡ Mutf8) × (b ≡ 0)) ⊎ ((0x80 ≤ b) × ((b < 0xC0) ⊎ (0xF0 ≤ b)))
 
+-- Such a byte adds three to the lossy length.
 replaced : (f : Flavor) (b : ℕ) (bytes : List ℕ) → BeginsNone f b → lossy_length f (b ∷ bytes) ≡ 3 + lossy_length f bytes
 unfolding encoding form units_of
 replaced f b bytes none = lossy_length_replaced f b bytes (λ c rest begins. grind (arith, nat_tests))
 
--- A scalar value that is encoded otherwise is longer in the reading of its UTF-8, and the others are as long.
+-- The lossy reading of a scalar value's UTF-8 is longer if the value is encoded otherwise than in
+-- UTF-8, and else as long.
 reading_longer : (f : Flavor) (c : ℕ) (bytes : List ℕ) → IsScalarValue c → IsEncodedOtherwise f c →
     length (utf8_of c) + lossy_length f bytes < lossy_length f (utf8_of c ++ bytes)
 unfolding utf8_of
 reading_longer f c bytes scalar otherwise = grind (arith, nat_tests, replaced)
 
+-- A scalar value that is encoded as its UTF-8 adds the length of this to the lossy length.
 as_long : (f : Flavor) (c : ℕ) (bytes : List ℕ) → IsScalarValue c → encoding f (c ∷ []) ≡ utf8_of c →
     lossy_length f (utf8_of c ++ bytes) ≡ length (utf8_of c) + lossy_length f bytes
 as_long f c bytes scalar encoded = grind (arith, lossy_length_character)
 
--- The reading of a text's UTF-8 is no shorter than that, and longer where the text needs encoding.
+-- The lossy reading of a text's UTF-8 is at least as long as it, and longer if the text needs
+-- encoding.
 record Sizes (f : Flavor) (text : List ℕ) : Type 0 where
   low : length (utf8 text) ≤ lossy_length f (utf8 text)
   needs : NeedsEncoding f text → length (utf8 text) < lossy_length f (utf8 text)
 
+-- Each text is within these bounds.
 sizes : (f : Flavor) (text : List ℕ) → IsText text → Sizes f text
 sizes f [] is_text = record { low = omega arith; needs = λ needs. absurd (any_nil _ needs) }
 sizes f (c ∷ text) is_text =
@@ -58,7 +64,7 @@ sizes f (c ∷ text) is_text =
       sizes f text is_text.1,
     )
 
--- The lossy reading of other bytes than unchanged UTF-8 is not the input.
+-- If the input is not unchanged UTF-8, its lossy reading is not the input.
 pub changed_reading : (f : Flavor) (bytes text : List ℕ) → ¬ (IsUnchangedUtf8 f bytes) → IsUtf8 text →
     chars text ≡ reading f bytes → text ≢ bytes
 unfolding lossy_length
@@ -67,7 +73,7 @@ changed_reading f bytes text not_unchanged is_utf8 chars_are equal =
     let needs_longer = (sizes f (chars text) of_chars.0).needs in
     not_unchanged (rw equal at is_utf8, λ changed. grind (arith, needs_longer, needs_by_bytes f text is_utf8, of_chars))
 
--- The lossy reading of unchanged UTF-8 is its text.
+-- If the input is unchanged UTF-8, its lossy reading is its own characters.
 pub unchanged_lossy : (f : Flavor) (bytes text : List ℕ) → text ≡ bytes → IsUnchangedUtf8 f bytes → chars text ≡ reading f bytes
 unchanged_lossy f bytes text equal unchanged =
     grind (arith, unchanged_reading f bytes text equal unchanged, reading_encoding f (chars text))

@@ -1,4 +1,4 @@
--- What text a lossy reading is.
+-- The lossy reading consists of scalar values, and it is the strict reading if it has no U+FFFD.
 use Rattle.std.proofs.Common.{◌≡◌, ◌≢◌, zero, suc, List, [], ◌∷◌, refl, sym, ap, ◌∙◌, subst, arith}
 use Rattle.std.specs.List.{All}
 use Rattle.cesu8_text.specs.Text.{IsText}
@@ -8,17 +8,17 @@ use Rattle.cesu8_text.specs.Laws.{ReadingIsText, NothingReplaced}
 use Rattle.cesu8_text.proofs.encoding.Encodings.{encoding_nil, encoding_cons}
 use Rattle.cesu8_text.proofs.reading.Costs.{fewest}
 
--- the text of a cutting is a text, since U+FFFD is a scalar value
+-- The text of a cutting consists of scalar values, since U+FFFD is one.
 text_of_pieces : (pieces : List Piece) → ArePieces pieces → IsText (text_of pieces)
 text_of_pieces [] are_pieces = tt
 text_of_pieces (piece ∷ pieces) are_pieces = grind (arith, text_of_pieces pieces are_pieces.1)
 
--- The lossy reading is a text: it is that of a cutting.
+-- The lossy reading consists of scalar values, since it is the text of a cutting.
 pub reading_is_text : ReadingIsText
 reading_is_text f bytes =
     let cutting = fewest f bytes in rw cutting.3 at (text_of_pieces cutting.0 cutting.1.0)
 
--- a cutting whose text holds no U+FFFD replaces nothing, so its bytes are the encoding of the text
+-- A cutting whose text has no U+FFFD replaces nothing, so its bytes are the encoding of the text.
 none_replaced : (f : Flavor) (pieces : List Piece) → All (λ c. c ≢ 0xFFFD) (text_of pieces) →
     encoding f (text_of pieces) ≡ bytes_of f pieces
 none_replaced f [] none = encoding_nil f
@@ -26,7 +26,7 @@ none_replaced f (Character c ∷ pieces) none =
     rw (encoding_cons, none_replaced f pieces (λ k d inside. none (suc k) d (omega arith)))
 none_replaced f (Replaced byte ∷ pieces) none = absurd (none zero 0 (omega arith) refl)
 
--- Where it holds no U+FFFD, the lossy reading is the strict one.
+-- If the lossy reading has no U+FFFD, it is the strict reading.
 pub nothing_replaced : NothingReplaced
 nothing_replaced f bytes none =
     let cutting = fewest f bytes in

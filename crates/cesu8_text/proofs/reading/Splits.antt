@@ -1,4 +1,5 @@
--- Where bytes can be split: two greedy cuttings, joined, are greedy exactly where no character crosses.
+-- Bytes can be decoded in two parts if and only if no character crosses the boundary, since exactly
+-- then two greedy cuttings join to a greedy one.
 use Rattle.std.proofs.Common.{◌≡◌, ℕ, suc, zero, ◌≤◌, ◌↔◌, refl, List, [], ◌∷◌, ◌++◌, sym, ◌∙◌, arith, length, drop}
 use Rattle.std.proofs.lemmas.List.{take-append-le, take-append-drop, map-append}
 use Rattle.std.proofs.lemmas.List.Concat.{flat_map-append}
@@ -12,15 +13,16 @@ use Rattle.cesu8_text.proofs.reading.Greedy.{places}
 use Rattle.cesu8_text.proofs.reading.Cuttings.{greedy_cutting}
 use Rattle.cesu8_text.proofs.reading.Costs.{greedy_by_text}
 
--- the bytes of joined pieces
+-- The bytes of joined cuttings are their joined bytes.
 bytes_of_joined : (f : Flavor) (p q : List Piece) → bytes_of f (p ++ q) ≡ bytes_of f p ++ bytes_of f q
 bytes_of_joined f p q = flat_map-append (bytes_of_piece f) p q
 
+-- Joined lists of valid pieces are valid.
 joined_pieces : (p q : List Piece) → ArePieces p → ArePieces q → ArePieces (p ++ q)
 joined_pieces [] q are_pieces others = others
 joined_pieces (piece ∷ p) q are_pieces others = (are_pieces.0, joined_pieces p q are_pieces.1 others)
 
--- A character that ends in the front begins the front alone.
+-- A character that begins the whole and ends in the first part begins the first part.
 pub begins_front : (f : Flavor) (front back rest : List ℕ) (c : ℕ) → BeginsWith f (front ++ back) c rest → width f c ≤ length front →
     BeginsWith f front c (drop (width f c) front)
 begins_front f front back rest c begins inside =
@@ -31,7 +33,7 @@ begins_front f front back rest c begins inside =
       take-append_seam (encoding f (c ∷ [])) rest,
     )
 
--- Two greedy cuttings, joined, are greedy where no character crosses.
+-- If no character crosses, two greedy cuttings join to a greedy one.
 joined_greedy : (f : Flavor) (p q : List Piece) → IsGreedy f p → IsGreedy f q → NoneCrosses f (bytes_of f p) (bytes_of f q) →
     IsGreedy f (p ++ q)
 joined_greedy f [] q is_greedy other_is_greedy crosses = other_is_greedy
@@ -50,7 +52,7 @@ joined_greedy f (Replaced b ∷ p) q is_greedy other_is_greedy crosses = (
       (none_crosses_later f (b ∷ []) (bytes_of f p) (bytes_of f q) crosses),
 )
 
--- Where two cuttings, joined, are greedy, no character crosses.
+-- If two cuttings join to a greedy one, no character crosses.
 none_crosses_joined : (f : Flavor) (p q : List Piece) → ArePieces p → IsGreedy f (p ++ q) → NoneCrosses f (bytes_of f p) (bytes_of f q)
 none_crosses_joined f [] q are_pieces is_greedy i c stands before = absurd (omega arith)
 none_crosses_joined f (Character d ∷ p) q are_pieces is_greedy i c stands before =
@@ -61,7 +63,7 @@ none_crosses_joined f (Replaced b ∷ p) q are_pieces is_greedy zero c stands be
 none_crosses_joined f (Replaced b ∷ p) q are_pieces is_greedy (suc i) c stands before =
     omega (arith, none_crosses_joined f p q are_pieces.1 is_greedy.1 i c stands (omega arith))
 
--- by two greedy cuttings
+-- `split` for bytes that are given by greedy cuttings.
 split_pieces : (f : Flavor) (p q : List Piece) → ArePieces p → ArePieces q → IsGreedy f p → IsGreedy f q →
     (reading f (bytes_of f p ++ bytes_of f q) ≡ reading f (bytes_of f p) ++ reading f (bytes_of f q)) ↔ NoneCrosses f (bytes_of f p) (bytes_of f q)
 split_pieces f p q are_pieces others is_greedy other_is_greedy =
@@ -77,7 +79,7 @@ split_pieces f p q are_pieces others is_greedy other_is_greedy =
       λ crosses. sym (places f whole (p ++ q) cuts (joined_greedy f p q is_greedy other_is_greedy crosses)) ∙ text,
     )
 
--- The reading of a whole is that of its parts exactly where no character crosses.
+-- The lossy reading of the whole is that of its two parts if and only if no character crosses.
 pub split : Split
 split f a b =
     let front = greedy_cutting f a in

@@ -1,4 +1,5 @@
--- The stretches of encoded characters: no two overlap, and where none crosses from one list into the next.
+-- The stretches of encoded characters don't overlap. Lemmas on the boundary between two lists that
+-- no character crosses.
 use Rattle.std.proofs.Common.{ℕ, ◌+◌, ◌-◌, ◌<◌, ◌≤◌, List, [], ◌∷◌, ◌++◌, refl, arith, length, drop, length-append, append_assoc}
 use Rattle.std.proofs.Math.Seq.{drop-append-add}
 use Rattle.std.proofs.lemmas.List.{drop-drop}
@@ -10,7 +11,8 @@ use Rattle.cesu8_text.specs.Laws.{NoOverlap, NoneCrosses}
 use Rattle.cesu8_text.proofs.encoding.Unique.{same_character}
 use Rattle.cesu8_text.proofs.reading.Inside.{none_inside}
 
--- a character at a later offset begins past the stretch of the earlier
+-- If two characters begin at different offsets, the later one begins after the stretch of the
+-- earlier one.
 past : (f : Flavor) (bytes : List ℕ) (i j c d : ℕ) → StandsAt f bytes i c → StandsAt f bytes j d → i < j → i + width f c ≤ j
 past f bytes i j c d stands later_stands before =
     grind (arith, none_inside f (drop i bytes) c d (j - i) stands.0, drop-drop (j - i) i bytes, cases_lt j (i + width f c))
@@ -26,15 +28,16 @@ no_overlap f bytes i j c d stands other_stands =
       same_character f (drop i bytes) c d stands.0 other_stands.0,
     )
 
--- What stands in the back stands in the whole, later by the length of the front.
+-- A character in the second part is in the whole, at an offset that is greater by the length of the
+-- first.
 pub later : (f : Flavor) (front back : List ℕ) (i c : ℕ) → StandsAt f back i c → StandsAt f (front ++ back) (length front + i) c
 later f front back i c stands = rw drop-append-add stands
 
--- And the other way round.
+-- A character of the whole at or after the boundary is in the second part.
 pub earlier : (f : Flavor) (front back : List ℕ) (i c : ℕ) → StandsAt f (front ++ back) (length front + i) c → StandsAt f back i c
 earlier f front back i c stands = rw drop-append-add at stands
 
--- Where none crosses from a front, none crosses from its end.
+-- If no character crosses from `piece ++ front` into `back`, none crosses from `front` into it.
 pub none_crosses_later : (f : Flavor) (piece front back : List ℕ) → NoneCrosses f (piece ++ front) back → NoneCrosses f front back
 none_crosses_later f piece front back crosses i c stands before =
     grind (
@@ -45,7 +48,8 @@ none_crosses_later f piece front back crosses i c stands before =
       length-append piece front,
     )
 
--- Where none crosses after a character, none crosses from it on.
+-- If no character crosses from `front` into `back`, none does after a character is put before
+-- `front`.
 pub none_crosses_character : (f : Flavor) (d : ℕ) (front back : List ℕ) → IsScalarValue d → NoneCrosses f front back →
     NoneCrosses f (encoding f (d ∷ []) ++ front) back
 none_crosses_character f d front back scalar crosses i c stands inside =

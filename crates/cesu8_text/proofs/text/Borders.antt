@@ -1,16 +1,16 @@
--- Scalar values at the borders between one, two, three and more bytes, as the standards write them:
--- UTF-8, CESU-8 and MUTF-8, each computed by the definitions.
+-- The first and the last scalar value of each width, in UTF-8, CESU-8 and MUTF-8, computed by the
+-- definitions and equal to the bytes that the standards give.
 use Rattle.std.proofs.Common.{◌≡◌, ℕ, List, [], ◌∷◌, rules}
 use Rattle.cesu8_text.specs.Text.{utf8_of, utf8}
 use Rattle.cesu8_text.specs.Utf16.{units_of}
 use Rattle.cesu8_text.specs.Encoding.{Cesu8, Mutf8, form, encoding}
 
--- how one scalar value is written
+-- What one scalar value is in the three encodings.
 abbrev IsWritten : ℕ → List ℕ → List ℕ → List ℕ → Type 0
 IsWritten c utf cesu mutf =
     (utf8 (c ∷ []) ≡ utf) × (encoding Cesu8 (c ∷ []) ≡ cesu) × (encoding Mutf8 (c ∷ []) ≡ mutf)
 
--- The borders of one byte, of two, of three and of a surrogate pair, and U+1F496.
+-- The bounds of one byte, two, three and a surrogate pair, and U+1F496.
 borders :
     IsWritten 0x0 (0x00 ∷ []) (0x00 ∷ []) (0xC0 ∷ 0x80 ∷ [])
     × IsWritten 0x1 (0x01 ∷ []) (0x01 ∷ []) (0x01 ∷ [])

@@ -1,18 +1,18 @@
--- How one scalar value is written, with the digits as variables.
+-- The UTF-8 of one scalar value, with its digits as variables.
 use Rattle.std.proofs.lemmas.Bool.Decides.{nat_tests}
 use Rattle.std.proofs.Common.{◌≡◌, ℕ, ◌+◌, ◌-◌, ◌*◌, ◌/◌, ◌%◌, ◌<◌, ◌≤◌, ◌⊎◌, [], ◌∷◌, inl, inr, arith}
 use Rattle.std.proofs.lemmas.Bool.{cases_lt}
 use Rattle.cesu8_text.specs.Text.{IsScalarValue, utf8_of}
 pub use Rattle.cesu8_text.specs.Patterns.{IsPair}
 
--- The digits of a scalar value of two bytes.
+-- The digits of a scalar value that takes two bytes.
 pub record IsTwo (c x y : ℕ) : Type 0 where
   pub value : c ≡ x * 0x40 + y
   pub low : 2 ≤ x
   pub high : x < 0x20
   pub last : y < 0x40
 
--- The digits of a scalar value of three bytes.
+-- The digits of a scalar value that takes three bytes.
 pub record IsThree (c x y z : ℕ) : Type 0 where
   pub value : c ≡ x * 0x1000 + y * 0x40 + z
   pub low : 0x800 ≤ c
@@ -20,14 +20,14 @@ pub record IsThree (c x y z : ℕ) : Type 0 where
   pub middle : y < 0x40
   pub last : z < 0x40
 
--- A scalar value by the number of its bytes.
+-- A scalar value by the number of its bytes, with its digits.
 pub data Shape (c : ℕ) : Type 0 where
   one : c < 0x80 → Shape c
   two : (x y : ℕ) → IsTwo c x y → Shape c
   three : (x y z : ℕ) → IsThree c x y z → Shape c
   pair : (w x y z : ℕ) → IsPair c w x y z → Shape c
 
--- Each scalar value has a shape.
+-- Each scalar value has one of these shapes.
 pub shape : (c : ℕ) → IsScalarValue c → Shape c
 shape c scalar = by (cases_lt c 0x80) (cases_lt c 0x800) (cases_lt c 0x10000)
   where
@@ -39,7 +39,7 @@ shape c scalar = by (cases_lt c 0x80) (cases_lt c 0x800) (cases_lt c 0x10000)
         pair ((c - 0x10000) / 0x10000) ((c - 0x10000) / 0x400 % 0x40) ((c - 0x10000) / 0x40 % 0x10) ((c - 0x10000) % 0x40)
         (grind arith)
 
--- The UTF-8 of a scalar value, by its digits: one byte, two, three, and four.
+-- The UTF-8 of a scalar value of one byte, two, three and four, by its digits.
 pub utf8_of_one : (c : ℕ) → c < 0x80 → utf8_of c ≡ c ∷ []
 unfolding utf8_of
 utf8_of_one c low = grind (arith, nat_tests)
