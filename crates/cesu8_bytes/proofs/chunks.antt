@@ -1,2 +1,2 @@
--- The words that surrogate pairs are found and written by.
+-- The words by which surrogate pairs are recognized and converted.
 pub mod PairWords

@@ -1,4 +1,4 @@
--- Lists of bytes, vectors and words, with nothing of an encoding.
+-- Lists of bytes, vectors and words, without reference to an encoding.
 pub mod Walks
 pub mod EightElements
 pub mod Ends

@@ -1,8 +1,8 @@
--- Lanes that are packed: which of them go, and the shuffles that leave these out.
+-- Packing: which lanes of a vector are dropped, and the shuffles that drop them.
 use Rattle.std.specs.Prelude.{◌≡◌, ℕ, zero, suc, ◌+◌, ◌/◌, ◌%◌, ◌-◌, ◌<◌, ◌==◌, if◌then◌else◌, Bool, List, [], ◌∷◌, ◌++◌, length, map, slice_index, slice_index_or, replicate}
 
--- What is written for bytes in a row: the replacement character for one that is ill-formed, nothing
--- for one that goes, and otherwise the byte.
+-- What is written for a byte: U+FFFD if it is ill-formed, nothing if it is dropped, and otherwise
+-- the byte. The two tests are given as lists for a list of bytes.
 abbrev pub written_for : Bool → Bool → ℕ → List ℕ
 written_for gone ill_formed b = if ill_formed then 0xEF ∷ 0xBF ∷ 0xBD ∷ [] else if gone then [] else b ∷ []
 
@@ -12,28 +12,29 @@ written (g ∷ gone) [] bytes = []
 written (g ∷ gone) (d ∷ ill_formed) [] = []
 written (g ∷ gone) (d ∷ ill_formed) (b ∷ bytes) = written_for g d b ++ written gone ill_formed bytes
 
--- The lanes that packing keeps of four bytes, followed by a replacement character: from byte i on,
--- for n bytes. Bit i of the first number is set if byte i goes, and that of the second if it is
--- ill-formed.
+-- The lanes that packing keeps, for n bytes from lane i on. Bit 0 of the first number says whether
+-- the first of them is dropped, and that of the second whether it is ill-formed. Lanes 4 to 6 have
+-- U+FFFD, so only four bytes can be packed if one may be ill-formed.
 abbrev pub kept_of : ℕ → ℕ → ℕ → ℕ → List ℕ
 kept_of gone ill_formed i zero = []
 kept_of gone ill_formed i (suc n) =
     (if ill_formed % 2 == 1 then 4 ∷ 5 ∷ 6 ∷ [] else if gone % 2 == 1 then [] else i ∷ [])
     ++ kept_of (gone / 2) (ill_formed / 2) (i + 1) n
 
--- The lanes at the indices in the lower halves of numbers.
+-- The lanes that the lower halves of the numbers select.
 abbrev pub lanes_at : List ℕ → List ℕ → List ℕ
 lanes_at lanes numbers = map (λ j. slice_index lanes (j % 0x10)) numbers
 
--- A shuffle of sixteen lanes that keeps these. Its last number is their count; those between are
--- not used.
+-- A shuffle of sixteen lanes that keeps the given lanes. Its last number is how many they are, and
+-- the numbers between are unused.
 abbrev pub shuffle_keeping : List ℕ → List ℕ
 shuffle_keeping kept = kept ++ replicate (15 - length kept) 0 ++ length kept ∷ []
 
--- A shuffle for eight bytes of which none is ill-formed. Bit i of the number is set if byte i goes.
+-- A shuffle for eight bytes, none of them ill-formed. Bit i of the number is set if byte i is
+-- dropped.
 abbrev pub shuffle_of_eight : ℕ → List ℕ
 shuffle_of_eight gone = shuffle_keeping (kept_of gone 0 0 8)
 
--- The rows of these shuffles, one for each number below 100 (hexadecimal).
+-- The table of these shuffles, one for each number below 100 (hexadecimal).
 abbrev pub AreShufflesOfEight : List (List ℕ) → Type 0
 AreShufflesOfEight rows = (gone : ℕ) → gone < 0x100 → slice_index_or rows gone [] ≡ shuffle_of_eight gone

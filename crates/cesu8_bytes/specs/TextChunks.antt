@@ -1,4 +1,4 @@
--- Text that is read a chunk at a time.
+-- The state of a decoder that decodes its input chunk by chunk.
 use Rattle.std.specs.Prelude.{◌≡◌, ℕ, List, ◌++◌}
 use Rattle.cesu8_text.specs.Text.{IsText, utf8}
 use Rattle.cesu8_text.specs.Encoding.{Flavor, encoding}
@@ -6,7 +6,7 @@ use Rattle.cesu8_text.specs.Reading.{reading}
 use Rattle.cesu8_bytes.specs.declared.strictness.Strictness.{Strictness}
 use Rattle.cesu8_bytes.specs.declared.strictness.Strictness.TheVariants.{Strict}
 
--- The text so far, whose UTF-8 was written after old, and the bytes that are left.
+-- The text decoded so far, whose UTF-8 was written after `old`, and the bytes that are left.
 pub record IsReadSoFar (f : Flavor) (which : Strictness) (bytes rest old new : List ℕ) : Type 0 where
   pub text : List ℕ
   pub scalars : IsText text

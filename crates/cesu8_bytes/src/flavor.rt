@@ -1,4 +1,4 @@
-//! The two encodings, as types. They differ in the form of U+0000, and in nothing else.
+//! The two encodings as types. They differ only in how they encode U+0000.
 
 ghost use Rattle.std.specs.Prelude.{◌≡◌, ◌↔◌, IsTrue, refl, map, if◌then◌else◌};
 ghost use Rattle.cesu8_text.specs.Encoding.{Flavor as AnyFlavor, Cesu8, Mutf8};
@@ -11,21 +11,22 @@ use crate::lanes::count::CountsOne;
 use crate::lanes::groups::InGroups;
 use std::simd::prelude::*;
 
-/// One of the two encodings.
+/// An encoding: CESU-8 or MUTF-8.
 pub trait Flavor {
-    /// The bytes 00 that are written as C0 80: `lengths` counts them, and `search` finds them.
+    /// The bytes 00 that are encoded as C0 80: none in CESU-8. `lengths` counts them, and `search`
+    /// finds them.
     type Null: CountsOne + InGroups<LANES>;
 
     ghost flavor: { AnyFlavor };
 
-    /// Returns whether U+0000 is written as two bytes, C0 80.
+    /// Returns whether U+0000 is encoded as two bytes, C0 80.
     fn has_long_null() -> bool
         ensures { IsTrue result ↔ flavor ≡ Mutf8 };
 
     ghost are_null: { Self.Null.class ≡ is_null flavor };
 }
 
-/// CESU-8. U+0000 is one byte, 00.
+/// CESU-8, which encodes U+0000 as one byte, 00.
 pub struct Cesu8Flavor;
 
 impl Flavor for Cesu8Flavor {
@@ -41,7 +42,7 @@ impl Flavor for Cesu8Flavor {
     ghost are_null = { refl };
 }
 
-/// MUTF-8. U+0000 is two bytes, C0 80.
+/// MUTF-8, which encodes U+0000 as two bytes, C0 80.
 pub struct Mutf8Flavor;
 
 impl Flavor for Mutf8Flavor {
@@ -57,7 +58,7 @@ impl Flavor for Mutf8Flavor {
     ghost are_null = { refl };
 }
 
-/// Returns all ones for each byte that is written as C0 80, and zeros for the others.
+/// Returns a mask of the bytes that are encoded as C0 80: FF for these, and 00 for the others.
 #[inline(always)]
 pub fn nulls<F: Flavor>(bytes: u8x32) -> u8x32
     ensures { result ≡ map (λ b. mask (is_null F.flavor b)) bytes }
@@ -65,8 +66,8 @@ pub fn nulls<F: Flavor>(bytes: u8x32) -> u8x32
     mask::<F::Null>(bytes)
 }
 
-/// Marks, with the highest bit, bytes that end C0 80 if they follow C0. `cesu8_decode` ANDs this
-/// with kinds, of which that bit is C0 80's: the other bits are set, and so keep the other kinds.
+/// Returns FF for each byte that completes C0 80 if it follows C0, and 7F for the others. In CESU-8
+/// no byte does.
 #[inline(always)]
 pub fn second_of_null<F: Flavor>(bytes: u8x32) -> u8x32
     ensures { result ≡ map (λ b. if null_at F.flavor 0xC0 b then 0xFF else 0x7F) bytes }

@@ -1,8 +1,10 @@
 //! Bytes as the lanes of vectors:
 //!
-//! - `class`, `groups`: the classes of bytes, as one vector marks them, and as four tell of them
-//! - `short`, `padded`: bytes that are few, by two vectors, and by one with zeros behind them
-//! - `search`, `count`, `runs`: whether bytes have one of a class, how many, and how many have none
+//! - `class`, `groups`: classes of bytes, as tests of one vector and of four at once
+//! - `short`, `padded`: short slices, covered by two vectors or padded with zeros to one
+//! - `search`: does a slice have a byte of a class?
+//! - `count`: how many bytes of a class does it have?
+//! - `runs`: how many bytes precede the first one of a class?
 
 pub mod class;
 pub mod count;

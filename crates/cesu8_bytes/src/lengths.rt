@@ -1,4 +1,4 @@
-//! The length of an encoding and of UTF-16, without encoding.
+//! The number of bytes of a string's encoding, and of its UTF-16 code units, without encoding it.
 
 ghost use Rattle.std.specs.Prelude.{◌≡◌, length};
 ghost use Rattle.std.specs.Str.{chars};
@@ -10,8 +10,8 @@ use crate::lanes::class::OneUnit;
 use crate::lanes::count::weight;
 use crate::looks::needs_encoded;
 
-/// Returns the length of a text's encoding, in bytes. A character of four bytes becomes six, and in
-/// MUTF-8 U+0000 becomes two.
+/// Returns the length of a string's encoding, in bytes. Each four-byte character becomes six bytes,
+/// and in MUTF-8 each U+0000 becomes two.
 #[inline(always)]
 pub fn encoded_len<F: Flavor>(text: &str) -> usize
     ensures { result ≡ length (encoding F.flavor (chars text.now)) }
@@ -19,8 +19,8 @@ pub fn encoded_len<F: Flavor>(text: &str) -> usize
     text.len() + weight::<F::Null>(text.as_bytes())
 }
 
-/// Returns the same length. A text that stays as it is takes less time, since a test whether a
-/// byte changes is faster than a count of those that do.
+/// Like `encoded_len`, but faster for a string that the encoding leaves unchanged: testing whether
+/// any byte changes takes less time than counting those that do.
 #[inline(always)]
 pub fn encoded_len_by_need<F: Flavor>(text: &str) -> usize
     ensures { result ≡ length (encoding F.flavor (chars text.now)) }
@@ -31,8 +31,8 @@ pub fn encoded_len_by_need<F: Flavor>(text: &str) -> usize
     encoded_len::<F>(text)
 }
 
-/// Returns how many UTF-16 code units a text has. A character of four bytes has two, and each other
-/// character has one.
+/// Returns the number of UTF-16 code units of a string: two for each four-byte character, and one
+/// for each other character.
 #[inline(always)]
 #[tactic(auto, using(cesu8_text::proofs::encoding::UnitCount::units_by_bytes))]
 pub fn utf16_len(text: &str) -> usize

@@ -1,15 +1,15 @@
-//! What the encoder and the decoder share, in the order of the data:
+//! What the encoder and the decoder share:
 //!
-//! - `flavor`, `strictness`: which encoding, and how bytes are decoded
-//! - `lanes`: vectors, the classes of bytes that they mark, and the searches for these
-//! - `implementation`: the kernels, by a search, a word or a byte at a time
-//! - `looks`: the first looks at an input
-//! - `lengths`, `order`: what is told of a text without encoding it
-//! - `pairs`: the bytes of a character
-//! - `writing`: what copies, packs and appends
-//! - `utf8`: what is known to be UTF-8, as a text
+//! - `flavor`, `strictness`: the encoding, and whether ill-formed bytes are errors or are replaced
+//! - `lanes`: vectors of bytes, classes of bytes, and searches and counts by vectors
+//! - `implementation`: the search kernels, by vectors, by words and by single bytes
+//! - `looks`: fast paths that a call inlines
+//! - `lengths`, `order`: the length and the order of encodings, without encoding
+//! - `pairs`: surrogate pairs
+//! - `writing`: copying, packing and appending bytes
+//! - `utf8`: bytes that are known to be UTF-8 as a `&str` or a `String`
 //!
-//! The names of this crate are no promise to users. `simd_cesu8` has the public calls.
+//! This crate is internal and may change at any time. `simd_cesu8` has the public calls.
 #![tactic(auto)]
 
 pub mod flavor;
@@ -23,8 +23,9 @@ pub mod strictness;
 pub mod utf8;
 pub mod writing;
 
-/// The bytes of a block, the lanes of a `u8x32`. Types, shuffles and proofs have that 32 too.
+/// The bytes of a block, the lanes of a `u8x32`. Types, shuffles and proofs assume this 32 too.
 pub const BLOCK: usize = 32;
 
-/// 256 shuffles of 16 lanes, 4 KiB: one for each eight bits that say what becomes of some bytes.
+/// A table of 256 shuffles of 16 lanes (4 KiB). The eight bits of an index say what becomes of each
+/// of eight bytes.
 pub type Rows = [[u8; 16]; 256];

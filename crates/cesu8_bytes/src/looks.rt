@@ -1,13 +1,19 @@
-//! The first looks at an input. Each length is for speed alone: a look spares ASCII a call, but is
-//! lost time for others. `cesu8_encode` alone chooses one by a length too, of texts up to a block.
+//! Fast paths: what a call checks inline, before it calls anything.
 //!
-//! | bytes | look | for |
+//! Most strings in class files, tag files and keys are short ASCII. A public call inlines one of
+//! these checks and returns if it succeeds. All but the last have a size limit: beyond it, the check
+//! costs other input more than it saves ASCII.
+//!
+//! | limit (bytes) | check | used by |
 //! |---|---|---|
-//! | at most 256 | are all ASCII that does not change? | what takes the encoding alone, `text_of` |
-//! | at most 1,024 | are all ASCII? | what takes UTF-8 as well |
-//! | at most 64, in front of a slice of 64 or more | that of the first row, by one vector | strings in a row |
-//! | below 256 | does a byte change? up to 64 by two vectors, else by more | what encodes |
-//! | 256 and more | the same, by four vectors at once. It is a branch of its own, which spares 65 to 255 bytes the test for four vectors: 5 or 6 instructions of 40 to 75 | the same |
+//! | 256 | is all of it unchanged ASCII? | strict calls, `text_of` |
+//! | 1,024 | is all of it ASCII? | lenient calls |
+//! | 64 | is a string inside a longer slice unchanged ASCII? | decoding of consecutive strings |
+//! | none | does any byte change in the encoding? | encoding |
+//!
+//! "Unchanged" means that the byte is the same in UTF-8 and in the encoding: in CESU-8 all ASCII
+//! is, in MUTF-8 all but 00. Encoding also chooses by length, up to a block: `cesu8_encode` does
+//! that.
 
 ghost use Rattle.std.specs.Prelude.{◌↔◌, IsTrue, Any, take};
 ghost use Rattle.std.specs.Str.{chars, IsAscii};
@@ -21,18 +27,18 @@ use crate::lanes::search::{any_in_bytes, any_in_first_look, any_in_long};
 use crate::lanes::short::are_short;
 use std::simd::prelude::*;
 
-/// The most bytes that are tested for ASCII that does not change before anything is called. From
-/// this length on four vectors at once are searched for what changes.
+/// The largest input that is checked inline for unchanged ASCII. From this length on,
+/// `contains_changed` searches four vectors at once.
 const SHORT: usize = 4 * LANES;
 
-/// The most bytes that are tested for all ASCII before anything is called.
+/// The largest input that a lenient call checks inline for ASCII.
 const TESTED_AT_ONCE: usize = 16 * LANES;
 
-/// How many bytes `begins_with_unchanged_ascii` loads: one vector. Longer ones have no such look.
+/// The one vector that `begins_with_unchanged_ascii` loads. Longer strings have no such check.
 const SHOWN_AT_ONCE: usize = LANES;
 
-/// Returns whether there are at most 1,024 bytes, all ASCII. `any_in_first_look`, which tests up to
-/// 128 bytes with two vectors, is larger code, so only `is_short_unchanged_ascii` uses it.
+/// Returns whether there are at most 1,024 bytes, all of them ASCII. It searches with
+/// `any_in_bytes`, because the code of `any_in_first_look` is larger.
 #[inline(always)]
 pub fn is_short_ascii(bytes: &[u8]) -> bool
     ensures { IsTrue result → IsAscii bytes.now }
@@ -40,15 +46,14 @@ pub fn is_short_ascii(bytes: &[u8]) -> bool
     if bytes.len() > TESTED_AT_ONCE {
         return false;
     }
-    // Most other input has a byte that is not ASCII in the first 64.
+    // Most text in other scripts has a byte that is not ASCII in the first 64.
     if !are_short(bytes) && has::<NonAscii, LANES>(u8x64::from_slice(bytes)) {
         return false;
     }
     !any_in_bytes::<NonAscii>(bytes)
 }
 
-/// Returns whether the bytes are few and all ASCII that does not change: in MUTF-8 00 does, and in
-/// CESU-8 none.
+/// Returns whether there are at most 256 bytes, all of them unchanged ASCII: in MUTF-8 not 00.
 #[inline(always)]
 pub fn is_short_unchanged_ascii<F: Flavor>(bytes: &[u8]) -> bool
     ensures ascii { IsTrue result → IsAscii bytes.now }
@@ -57,9 +62,9 @@ pub fn is_short_unchanged_ascii<F: Flavor>(bytes: &[u8]) -> bool
     bytes.len() <= SHORT && !any_in_first_look::<Either<F::Null, NonAscii>>(bytes)
 }
 
-/// Returns whether the first bytes are few, and all ASCII that does not change, as far as one
-/// vector shows. It may have more bytes than these, so no branch chooses a width by how many they
-/// are, which a processor could guess wrong.
+/// Returns true only if the first `len` bytes are unchanged ASCII, `len` is at most 64, and the
+/// slice has 64 bytes to load. Strings that follow one another have random lengths, so nothing here
+/// branches on `len`: a branch would be mispredicted.
 #[inline(always)]
 pub fn begins_with_unchanged_ascii<F: Flavor>(bytes: &[u8], len: usize) -> bool
     ensures ascii { IsTrue result → IsAscii (take len bytes.now) }
@@ -70,7 +75,9 @@ pub fn begins_with_unchanged_ascii<F: Flavor>(bytes: &[u8], len: usize) -> bool
         && lanes_before::<Either<F::Null, NonAscii>, SHOWN_AT_ONCE>(Simd::from_slice(bytes)) >= len
 }
 
-/// Returns whether some byte of the UTF-8 changes in the flavor.
+/// Returns whether the encoding changes a byte of this UTF-8. The search is the same in both
+/// branches. In the first one, the compiler leaves out the loop over four vectors at once, which
+/// saves 65 to 255 bytes about six instructions.
 #[inline(always)]
 fn contains_changed<F: Flavor>(bytes: &[u8]) -> bool
     ensures { IsTrue result ↔ Any (IsChangedByte F.flavor) bytes.now }
@@ -82,6 +89,7 @@ fn contains_changed<F: Flavor>(bytes: &[u8]) -> bool
     }
 }
 
+/// Returns whether the encoding changes a character of the string.
 #[inline(always)]
 pub fn needs_encoded<F: Flavor>(value: &str) -> bool
     ensures { IsTrue result ↔ NeedsEncoding F.flavor (chars value.now) }
@@ -89,8 +97,9 @@ pub fn needs_encoded<F: Flavor>(value: &str) -> bool
     contains_changed::<F>(value.as_bytes())
 }
 
-/// Returns whether a text changes. `encode_to_slice` asks for a block at most, so no loop is
-/// inlined. A text has no byte above F7 (hexadecimal), so one comparison finds a lead of four.
+/// Returns whether encoding changes a string of at most a block (32 bytes), so that no loop is
+/// inlined. It may also return true for other strings. UTF-8 has no byte above F7 (hexadecimal), so
+/// one comparison finds a four-byte lead.
 #[inline(always)]
 pub fn few_need_encoded<F: Flavor>(value: &str) -> bool
     ensures { NeedsEncoding F.flavor (chars value.now) → IsTrue result }

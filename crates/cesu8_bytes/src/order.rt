@@ -1,8 +1,8 @@
-//! The order of texts by their UTF-16 code units, without encoding them.
+//! Compares strings by their UTF-16 code units, without encoding them.
 //!
-//! UTF-8 compares as scalar values do. In UTF-16 a surrogate pair is below U+E000 to U+FFFF, whose
-//! lead bytes are EE and EF (hexadecimal). So these have to come after the lead bytes of four. Only
-//! the first two bytes that differ decide, or the lengths if none do.
+//! UTF-8 compares as scalar values do. UTF-16 differs: a surrogate pair is below U+E000 to U+FFFF,
+//! whose lead bytes in UTF-8 are EE and EF (hexadecimal). So these two have to rank above the
+//! four-byte leads. The first bytes that differ decide, or the lengths if none do.
 
 ghost use Rattle.std.specs.Prelude.{◌≡◌, ◌≢◌, ℕ, ◌+◌, ◌<◌, ◌≤◌, length, slice_index};
 ghost use Rattle.std.specs.Cmp.Lexicographic.{slice_cmp};
@@ -17,7 +17,7 @@ use crate::lanes::runs::first_bit;
 use std::cmp::Ordering;
 use std::simd::prelude::*;
 
-/// Compares two texts by their UTF-16 code units.
+/// Compares two strings by their UTF-16 code units.
 pub fn compare_as_utf16(text: &str, other: &str) -> Ordering
     ensures { result ≡ slice_cmp nat_cmp (units (chars text.now)) (units (chars other.now)) }
 {
@@ -32,13 +32,13 @@ pub fn compare_as_utf16(text: &str, other: &str) -> Ordering
     }
 }
 
-/// Returns the offset of the first byte that differs, or the length up to which it looks.
+/// Returns the offset of the first byte that differs, or `len` if the first `len` bytes are equal.
 #[inline(always)]
 fn first_difference(bytes: &[u8], other: &[u8], len: usize) -> usize
     requires { (len ≤ length bytes.now) × (len ≤ length other.now) }
     ensures { IsFirstDifference bytes.now other.now len result }
 {
-    // The choice of a wider vector would cost more.
+    // The code that chooses a wider vector would cost more than that saves.
     match len {
         0 => 0,
         1..8 => difference_by::<1>(bytes, other, len),
@@ -47,8 +47,8 @@ fn first_difference(bytes: &[u8], other: &[u8], len: usize) -> usize
     }
 }
 
-/// Returns the offset of the first byte that differs, or the length up to which it looks, by
-/// vectors of so many bytes. The last one ends at that length, and may overlap the one before.
+/// Like `first_difference`, by vectors of `N` bytes. The last one ends at `len`, and may overlap
+/// the one before it.
 #[inline(always)]
 fn difference_by<const N: usize>(bytes: &[u8], other: &[u8], len: usize) -> usize
     requires lanes { (0 < N) × (N ≤ LANES) × (N ≤ len) }
@@ -67,8 +67,7 @@ fn difference_by<const N: usize>(bytes: &[u8], other: &[u8], len: usize) -> usiz
     last + same_in_front::<N>(bytes, other, last)
 }
 
-/// Returns how many of the bytes of a vector at an offset are the same, up to the first that
-/// differs.
+/// Returns how many lanes of the two vectors at an offset are equal, before the first that differs.
 #[inline(always)]
 fn same_in_front<const N: usize>(bytes: &[u8], other: &[u8], offset: usize) -> usize
     requires lanes { N ≤ LANES }
@@ -84,7 +83,7 @@ fn same_in_front<const N: usize>(bytes: &[u8], other: &[u8], offset: usize) -> u
     first_bit::<N>(lanes.simd_ne(other_lanes).to_bitmask())
 }
 
-/// Ranks a byte of UTF-8 as UTF-16 orders it: EE and EF become FE and FF, above the leads of four.
+/// Ranks a byte of UTF-8 as UTF-16 orders it: EE and EF become FE and FF, above four-byte leads.
 #[inline(always)]
 fn rank(byte: u8) -> u8
     ensures { result ≡ utf16_rank byte }

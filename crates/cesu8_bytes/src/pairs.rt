@@ -1,23 +1,25 @@
-//! Surrogate pairs, found and written in UTF-8 by words of eight bytes.
+//! Recognizes an encoded surrogate pair and converts it to UTF-8, eight bytes at a time as one
+//! word.
 
 ghost use Rattle.std.specs.Prelude.{◌≡◌, ◌+◌, ◌*◌, ◌≤◌, ◌↔◌, length, slice_index, IsTrue};
 ghost use Rattle.cesu8_bytes.specs.Pairs.{HasPair, IsUtf8OfDigits, second_third_fifth_sixth, word_of};
 
 use std::simd::prelude::*;
 
-/// How many bytes a surrogate pair has.
+/// The length of an encoded surrogate pair.
 pub const PAIR: usize = 6;
 
-/// How many bytes the UTF-8 of its character has.
+/// The length of its character in UTF-8.
 pub const PAIR_UTF8: usize = 4;
 
-/// How many bytes a look for a pair reads: a `u64`, of which the last two bytes decide nothing.
+/// How many bytes are read as one word. The two bytes after the pair do not matter.
 pub const PAIR_READ: usize = 8;
 
-/// What all pairs share of ED, A0 to AF, 80 to BF, ED, B0 to BF, 80 to BF, the first byte lowest.
+/// The bits that all pairs have in common. A pair is ED, A0 to AF, 80 to BF, ED, B0 to BF, 80 to
+/// BF, with the first byte in the lowest bits of the word.
 const PAIR_BITS: u64 = 0x0000_80B0_ED80_A0ED;
 
-/// Returns whether a surrogate pair begins the bytes.
+/// Returns whether the bytes begin with an encoded surrogate pair.
 #[inline(always)]
 pub fn is_pair(bytes: &[u8]) -> bool
     requires { PAIR_READ ≤ length bytes.now }
@@ -33,9 +35,11 @@ pub fn utf8_of_pair(bytes: &[u8]) -> [u8; PAIR_UTF8]
     requires pair { HasPair bytes.now }
     ensures { IsUtf8OfDigits (second_third_fifth_sixth bytes.now) result }
 {
-    // The plane offset: one more than the last four bits of the second byte, which is below B0.
+    // Adds the plane offset 10000 to the character: one more in the last four bits of the second
+    // byte. That byte is below B0, so nothing is carried.
     let word = first_word(bytes) + 0x100;
-    // To the marks F0 80 80 80 each term adds the digits that move by its number of bits.
+    // The leading bits of the four bytes, F0 80 80 80. Each term moves some digits into their
+    // places.
     let utf8 = 0x8080_80F0
         + (word >> 10 & 0x0000_0F07)
         + ((word & 0x0003_0300) << 4)

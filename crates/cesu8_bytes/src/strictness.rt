@@ -1,5 +1,5 @@
-//! Strict and lossy reading, as values and as types. A loop over blocks is compiled for each type,
-//! so that in strict reading it has nothing of what replaces ill-formed bytes.
+//! Strict and lossy decoding, as values and as types. Loops over blocks are compiled once for each
+//! type, so that the strict loop has no code for replacing ill-formed bytes.
 
 ghost use Rattle.std.specs.Prelude.{◌≡◌, OkIff, false};
 ghost use Rattle.cesu8_bytes.specs.declared.strictness.Strictness.{Strictness};
@@ -7,34 +7,35 @@ ghost use Rattle.cesu8_bytes.specs.declared.strictness.Strictness.TheVariants.{S
 
 use std::convert::Infallible;
 
-/// Whether a byte in no encoded character is an error, or is replaced.
+/// Whether a byte that belongs to no encoded character is an error or is replaced by U+FFFD.
 #[derive(Clone, Copy)]
 pub enum Strictness {
     Strict,
     Lossy,
 }
 
-/// Strict or lossy reading.
+/// A type for strict or for lossy decoding.
 pub trait Reading {
-    /// Which of the two, as a value.
+    /// The same choice as a value.
     ghost which: { Strictness };
 
-    /// Why it has no text. Lossy reading has no value of this type, since it always has a text.
+    /// The error of strict decoding. For lossy decoding this type has no value, since that cannot
+    /// fail.
     type Refusal: Drop;
 
-    /// Returns which of the two.
+    /// Returns the choice as a value.
     fn strictness() -> Strictness
         ensures { result ≡ which };
 
-    /// Returns what was read, unless strict reading refused a byte.
+    /// Returns the decoded text, or an error if decoding is strict and rejected a byte.
     fn unless_refused<T: Drop>(is_refused: bool, read: T) -> Result<T, Self::Refusal>
         ensures { OkIff result (which ≡ Strict → is_refused ≡ false) read };
 }
 
-/// An ill-formed byte leaves no text.
+/// Strict decoding: an ill-formed byte is an error.
 pub struct StrictReading;
 
-/// The bytes are the encoding of no text.
+/// The error of strict decoding: the bytes are the encoding of no text.
 #[derive(Clone, Copy)]
 pub struct NoText;
 
@@ -54,7 +55,7 @@ impl Reading for StrictReading {
     }
 }
 
-/// An ill-formed byte is replaced.
+/// Lossy decoding: an ill-formed byte is replaced.
 pub struct LossyReading;
 
 impl Reading for LossyReading {

@@ -1,27 +1,27 @@
-//! What is known to be UTF-8, as a text.
+//! Bytes that are known to be UTF-8, as a `&str` or a `String`, without a test.
 
 ghost use Rattle.std.specs.Prelude.{◌≡◌, IsUtf8, vec_capacity};
 ghost use Rattle.std.specs.String.{string_bytes, string_capacity};
 
 use std::str;
 
-/// Returns bytes that are known to be UTF-8 as a text, with no test.
+/// Returns bytes that are known to be UTF-8 as a `&str`, without testing them.
 #[inline(always)]
 pub fn known_text(bytes: &[u8]) -> &str
     requires { IsUtf8 bytes.now }
     ensures { result.now ≡ bytes.now }
 {
-    // What it wants is what this function requires, so the check proves it at each call.
+    // `from_utf8_unchecked` needs UTF-8. This function requires it, so it is proved at each call.
     unsafe { str::from_utf8_unchecked(bytes) }
 }
 
-/// Returns bytes that are known to be UTF-8 as a `String`, with no test.
+/// Returns bytes that are known to be UTF-8 as a `String`, without testing or copying them.
 #[inline(always)]
 pub fn known_string(bytes: Vec<u8>) -> String
     requires { IsUtf8 bytes.items }
     ensures bytes { string_bytes result ≡ bytes.items }
     ensures capacity { string_capacity result ≡ vec_capacity bytes }
 {
-    // As above.
+    // `from_utf8_unchecked` needs UTF-8, which this function requires.
     unsafe { String::from_utf8_unchecked(bytes) }
 }

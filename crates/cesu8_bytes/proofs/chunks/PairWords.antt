@@ -1,4 +1,5 @@
--- The words by which a surrogate pair is found and written in UTF-8: its six bytes and two more.
+-- A surrogate pair and the two bytes after it as one word: the mask that recognizes the pair, and
+-- the shifts that convert it to UTF-8.
 use Rattle.std.proofs.lemmas.Bool.Decides.{nat_tests}
 use Rattle.std.proofs.lemmas.Grind.{common_steps}
 use Rattle.std.proofs.Common.{◌≡◌, ℕ, ◌&&◌, ◌+◌, ◌*◌, ◌/◌, ◌%◌, ◌^◌, ◌<◌, ◌↔◌, List, [], ◌∷◌, get_or, refl, ap, ◌∙◌, arith, bit_and, eqb, leb, ltb, w32}
@@ -10,7 +11,7 @@ use Rattle.cesu8_bytes.specs.Pairs.{HasPair, word_of}
 use Rattle.cesu8_text.proofs.text.Shapes.{IsPair, utf8_of_pair}
 use Rattle.cesu8_bytes.proofs.lists.Classes.{continues_by_bits}
 
--- a word's mask is that of each of its bytes
+-- Masking a word masks each of its bytes.
 masked : (a b d e g h more : ℕ) → a < 0x100 → b < 0x100 → d < 0x100 → e < 0x100 → g < 0x100 → h < 0x100 →
     bit_and (word_of a b d e g h more) 0xC0F0FFC0F0FF
     ≡ a + bit_and b 0xF0 * 0x100 + bit_and d 0xC0 * 0x10000 + e * 0x1000000 + bit_and g 0xF0 * 0x100000000 + bit_and h 0xC0 * 0x10000000000
@@ -27,14 +28,15 @@ masked a b d e g h more a_byte b_byte d_byte e_byte g_byte h_byte =
       and_block 8 b 0xF0 a 0xFF (omega arith) (omega arith),
     ) (omega (arith, and_mask a 8, and_mask e 8, and_le_r more 0))
 
--- a mask tests a range
+-- A byte is B0 to BF if its upper four bits are those of B0.
 low_surrogate_test : (x : ℕ) → x < 0x100 → eqb (bit_and x 0xF0) 0xB0 ≡ (leb 0xB0 x && ltb x 0xC0)
 low_surrogate_test x h = agree_below_at (λ x. eqb (bit_and x 0xF0) 0xB0) (λ x. leb 0xB0 x && ltb x 0xC0) 0x100 x refl h
 
+-- A byte is A0 to AF if its upper four bits are those of A0.
 high_surrogate_test : (x : ℕ) → x < 0x100 → eqb (bit_and x 0xF0) 0xA0 ≡ (leb 0xA0 x && ltb x 0xB0)
 high_surrogate_test x h = agree_below_at (λ x. eqb (bit_and x 0xF0) 0xA0) (λ x. leb 0xA0 x && ltb x 0xB0) 0x100 x refl h
 
--- The word of bytes passes the test exactly where they begin with a surrogate pair.
+-- A word passes the test if and only if its bytes begin with a surrogate pair.
 pub word_tells : (bytes : List ℕ) (more : ℕ) → ((i : ℕ) → get_or bytes i 0 < 0x100) →
     (bit_and (word_of (get_or bytes 0 0) (get_or bytes 1 0) (get_or bytes 2 0) (get_or bytes 3 0) (get_or bytes 4 0) (get_or bytes 5 0) more) 0xC0F0FFC0F0FF
     ≡ 0x80B0ED80A0ED) ↔ HasPair bytes
@@ -48,24 +50,26 @@ word_tells bytes more byte =
       (λ pair. grind (arith, nat_tests, common_steps, eqb-true, byte, is, second, third, fifth, last)),
     )
 
--- The word of the UTF-8 that is written for the word of a surrogate pair.
+-- The word of the UTF-8 that is computed from the word of a surrogate pair.
 abbrev utf8_word : ℕ → ℕ
 utf8_word word =
     0x808080F0 + bit_and ((word + 0x100) / 2 ^ 10) 0x0F07
     + bit_and (word + 0x100) 0x30300 * 2 ^ 4 % 2 ^ 64
     + bit_and ((word + 0x100) / 2 ^ 16) 0x3F0F0000
 
--- A word has its bytes.
+-- The bytes of a word of four bytes.
 bytes_of_word : (p q r s : ℕ) → p < 0x100 → q < 0x100 → r < 0x100 → s < 0x100 →
     to_le_bytes w32 (p + q * 0x100 + r * 0x10000 + s * 0x1000000) ≡ p ∷ q ∷ r ∷ s ∷ []
 bytes_of_word p q r s p_byte q_byte r_byte s_byte = grind arith
 
--- The digits that move by ten bits, by four the other way, and by sixteen.
+-- The bits of the UTF-8: some digits move down by ten bits, some up by four, and some down by
+-- sixteen.
 module _ (a w x e y z more : ℕ) (a_byte : a < 0x100) (w_low : w < 0x10) (x_low : x < 0x40)
     (e_byte : e < 0x100) (y_low : y < 0x10) (z_low : z < 0x40) where
   abbrev word : ℕ
   word = word_of a (0xA1 + w) (0x80 + x) e (0xB0 + y) (0x80 + z) more
 
+  -- What the shift by ten bits leaves under its mask.
   by_ten : bit_and (word / 2 ^ 10) 0x0F07 ≡ (w + 1) / 4 + x / 4 * 0x100
   by_ten =
       let high = (0x80 + x) / 4 + e * 0x40 + (0xB0 + y) * 0x4000 + (0x80 + z) * 0x400000 + more * 0x40000000 in
@@ -73,6 +77,7 @@ module _ (a w x e y z more : ℕ) (a_byte : a < 0x100) (w_low : w < 0x10) (x_low
       let parts : word / 2 ^ 10 ≡ high * 2 ^ 8 + low = omega arith in
       rw (parts, and_block 8 high 0x0F low 7 (omega arith) (omega arith)) (omega (arith, and_mask high 4, and_mask low 3))
 
+  -- What the mask leaves that the shift by four bits then moves.
   by_four : bit_and word 0x30300 ≡ (w + 1) % 4 * 0x100 + x % 4 * 0x10000
   by_four =
       let high = (0x80 + x) + e * 0x100 + (0xB0 + y) * 0x10000 + (0x80 + z) * 0x1000000 + more * 0x100000000 in
@@ -83,6 +88,7 @@ module _ (a w x e y z more : ℕ) (a_byte : a < 0x100) (w_low : w < 0x10) (x_low
         and_block 8 (0xA1 + w) 3 a 0 (omega arith) (omega arith),
       ) (omega (arith, and_mask high 2, and_mask (0xA1 + w) 2, and_le_r a 0))
 
+  -- What the shift by sixteen bits leaves under its mask.
   by_sixteen : bit_and (word / 2 ^ 16) 0x3F0F0000 ≡ y * 0x10000 + z * 0x1000000
   by_sixteen =
       let high = (0x80 + z) + more * 0x100 in
@@ -94,7 +100,7 @@ module _ (a w x e y z more : ℕ) (a_byte : a < 0x100) (w_low : w < 0x10) (x_low
         and_block 16 (0xB0 + y) 0x0F low 0 (omega arith) (omega arith),
       ) (omega (arith, and_mask high 6, and_mask (0xB0 + y) 4, and_le_r low 0))
 
--- Its bytes are the UTF-8 of the character.
+-- The computed word has the bytes of the character's UTF-8.
 pub utf8_word_is : (c w x y z a e more word : ℕ) → IsPair c w x y z → a < 0x100 → e < 0x100 →
     word ≡ word_of a (0xA0 + w) (0x80 + x) e (0xB0 + y) (0x80 + z) more → to_le_bytes w32 (utf8_word word) ≡ utf8_of c
 utf8_word_is c w x y z a e more word digits a_byte e_byte word_is =

@@ -1,4 +1,4 @@
--- ASCII: bytes of which none is 80 (hexadecimal) or more.
+-- Bytes are ASCII if none is 80 (hexadecimal) or more.
 use Rattle.std.proofs.lemmas.Bool.Decides.{nat_tests}
 use Rattle.std.proofs.Common.{◌≡◌, ◌∙◌, ℕ, Bool, true, not, ◌||◌, ◌<◌, ◌≤◌, List, sym, ap, arith, leb, length, take, get_or}
 use Rattle.std.specs.List.{Any, prefix_len}
@@ -11,32 +11,33 @@ use Rattle.cesu8_bytes.specs.Kernels.{AnyIn}
 use Rattle.cesu8_text.specs.Encoding.{Flavor, Cesu8, Mutf8}
 use Rattle.cesu8_text.specs.Class.{is_null, IsChangedByte}
 
--- 80 (hexadecimal) or more: what is not ASCII.
+-- Whether a byte is 80 (hexadecimal) or more.
 abbrev pub is_non_ascii : ℕ → Bool
 is_non_ascii b = leb 0x80 b
 
--- Bytes are ASCII where none is 80 or more.
+-- Bytes are ASCII if none is 80 (hexadecimal) or more.
 pub ascii_of_none : (xs : List ℕ) → (AnyIn is_non_ascii xs → ⊥) → IsAscii xs
 ascii_of_none xs none = IsAscii-from_reads xs (length xs) (omega arith) (λ k inside.
     leb-false 0x80 (get_or xs k 0) (false_from_ne_true _ (λ high.
     none (k, get_or xs k 0, inside, get_or_default xs k (get_or xs k 0) 0 inside, high))))
 
--- So are they where none is of another class either.
+-- Bytes are ASCII if none is in the union of this class and another one.
 pub ascii_of_neither : (other : ℕ → Bool) (xs : List ℕ) → (AnyIn (λ b. other b || is_non_ascii b) xs → ⊥) → IsAscii xs
 ascii_of_neither other xs none = ascii_of_none xs (λ any.
     none (any.0, any.1, any.2, any.3, or_right (other any.1) (is_non_ascii any.1) any.4))
 
+-- A byte that changes is a changed 00, or at least n, for any n up to F0 (hexadecimal).
 changed_is_either : (f : Flavor) (n b : ℕ) → n ≤ 0xF0 → IsChangedByte f b → (is_null f b || leb n b) ≡ true
 changed_is_either Cesu8 n b low four = grind (arith, nat_tests)
 changed_is_either Mutf8 n b low changed = grind (arith, nat_tests)
 
--- A byte that changes is a null that does, or F0 or more, and so a number below that or more.
+-- If some byte changes, some byte is in the union of the two classes by which code searches for it.
 pub either_of_changed : (f : Flavor) (null : ℕ → Bool) → null ≡ is_null f → (n : ℕ) → n ≤ 0xF0 → (xs : List ℕ) →
     Any (IsChangedByte f) xs → AnyIn (λ b. null b || leb n b) xs
 either_of_changed f null is n low xs any =
     (any.0, any.1, any.2, any.3, ap (λ p. p any.1 || leb n any.1) is ∙ changed_is_either f n any.1 low any.4)
 
--- None of the first bytes is of a class where no fewer precede one of it.
+-- If at least `len` elements precede the first one of a class, the first `len` have none of it.
 pub none_in_front : (class : ℕ → Bool) (xs : List ℕ) (n len run : ℕ) → run ≡ prefix_len (λ b. not (class b)) (take n xs) → len ≤ run →
     AnyIn class (take len xs) → ⊥
 none_in_front class xs n len run is enough any =

@@ -1,4 +1,4 @@
--- Lists cut into chunks of one length.
+-- Lists that are cut into chunks of one length, and what is left over.
 use Rattle.std.proofs.Common.{◌≡◌, ℕ, Bool, true, false, IsTrue, ◌+◌, ◌*◌, ◌/◌, ◌↔◌, ◌⊎◌, List, [], ◌∷◌, length, take, drop, refl, sym, ap, ◌∙◌, subst, zero, suc, inl, inr, ⊎_elim, arith}
 use Rattle.std.specs.List.{Any}
 use Rattle.std.specs.Simd.{first_chunks}
@@ -6,7 +6,7 @@ use Rattle.std.proofs.lemmas.Bool.{iff_false, false≢true}
 use Rattle.std.proofs.lemmas.List.{take-append-drop, drop-drop}
 use Rattle.cesu8_text.proofs.lists.Elements.{any_nil, any_here, any_there, any_cons, any_left, any_right, any_append}
 
--- by how many elements the chunks have
+-- By induction over the number of chunks.
 cut : {X : Type 0} (P : X → Type 0) (n k m : ℕ) (xs : List X) → m ≡ k * n → Any P xs ↔ (Any (Any P) (first_chunks n k xs) ⊎ Any P (drop m xs))
 cut P n zero m xs e =
     let none : m ≡ 0 = omega arith in
@@ -28,7 +28,7 @@ cut P n (suc k) m xs e =
           grind (arith, front, back, any_cons (Any P) (take n xs) chunks, rest.1, left, whole)),
     )
 
--- P holds of an element of a list where it holds of one in its chunks or of one that they leave.
+-- P holds of an element of a list if and only if it holds of one in a chunk or in the rest.
 chunked : {X : Type 0} (P : X → Type 0) (n : ℕ) (xs : List X) (chunks : List (List X)) (rest : List X) →
     chunks ≡ first_chunks n (length xs / n) xs → rest ≡ drop (length xs / n * n) xs → Any P xs ↔ (Any (Any P) chunks ⊎ Any P rest)
 chunked P n xs chunks rest e f =
@@ -37,21 +37,21 @@ chunked P n xs chunks rest e f =
 module _ {X : Type 0} (P : X → Type 0) (n : ℕ) (xs : List X) (chunks : List (List X)) (rest : List X) (found : Bool)
     (front : chunks ≡ first_chunks n (length xs / n) xs) (back : rest ≡ drop (length xs / n * n) xs)
     (tells : IsTrue found ↔ Any (Any P) chunks) where
-  -- Where a test finds it in the chunks, it holds of an element.
+  -- If a test finds such an element in the chunks, the list has one.
   pub found_in_chunks : found ≡ true → Any P xs
   found_in_chunks t = (chunked P n xs chunks rest front back).1 (inl (tells.0 t))
 
-  -- Where a test does not, the rest is what stands to be tested.
+  -- If a test finds none in the chunks, the rest decides.
   pub left_by_chunks : found ≡ false → Any P rest ↔ Any P xs
   left_by_chunks none =
       let cut = chunked P n xs chunks rest front back in
       ((λ p. cut.1 (inr p)), (λ p. ⊎_elim (λ q. absurd (iff_false tells none q)) (λ q. q) (cut.0 p)))
 
--- Where nothing is left, the answer is no.
+-- If the rest is empty, no element of it has P.
 pub nothing_left : {X : Type 0} (P : X → Type 0) (rest : List X) → length rest ≡ 0 → IsTrue false ↔ Any P rest
 nothing_left P rest none = ((λ t. absurd (false≢true t)), (λ h. absurd (omega (arith, none, h.2))))
 
--- P holds of one of four elements where it holds of one of the first two or of the others.
+-- P holds of one of four elements if and only if it holds of one of two pairs of them.
 pub group_elements : {X : Type 0} (P : X → Type 0) (a b c d : X) → Any P (a ∷ b ∷ c ∷ d ∷ []) ↔ ((P a ⊎ P b) ⊎ (P c ⊎ P d))
 group_elements P a b c d = (
   (λ h. grind (arith, any_cons, any_nil)),

@@ -1,4 +1,5 @@
--- Vectors that mark the bytes of a class.
+-- Vectors whose lanes mark the bytes of a class: what each comparison computes, and what a mask
+-- says.
 use Rattle.std.proofs.Common.{◌≡◌, ℕ, Bool, false, not, cond, ◌||◌, ◌&&◌, ◌%◌, ◌^◌, ◌≤◌, ◌<◌, List, map, length, replicate, eqb, leb, ltb, refl, ap, ◌∙◌, arith, bit_and, bit_or, w8, Fits}
 use Rattle.std.specs.Prelude.{ℤ}
 use Rattle.std.proofs.lemmas.Bool.{agree_below_at}
@@ -10,20 +11,21 @@ use Rattle.cesu8_text.specs.Class.{is_four}
 use Rattle.cesu8_bytes.specs.Kernels.{lane}
 use Rattle.cesu8_bytes.proofs.lists.Lanes.{ones, equal, below, map_agree, chosen_of}
 
--- the lanes of the mask that marks the bytes of a class
+-- The lanes of the mask of a class.
 abbrev pub marks_of : (ℕ → Bool) → List ℕ → List ℤ
 marks_of class bytes = map (λ b. lane (class b)) bytes
 
+-- A lane of all ones is -1 as a signed number.
 lane_of_ones : (t : Bool) → to_z w8 (ones t) ≡ lane t
 lane_of_ones t = grind arith
 
--- Lanes that are all ones where the byte is of a class are its mask.
+-- Lanes that are all ones if the byte is in the class, and otherwise 0, are the mask of the class.
 pub marked : (class : ℕ → Bool) (bytes lanes : List ℕ) → lanes ≡ map (λ b. ones (class b)) bytes → map (to_z w8) lanes ≡ marks_of class bytes
 marked class bytes lanes are =
     ap (map (to_z w8)) are ∙ map-map (to_z w8) (λ b. ones (class b)) bytes
     ∙ map_agree _ _ bytes (Each1-all (λ b. to_z w8 (ones (class b)) ≡ lane (class b)) (λ b. lane_of_ones (class b)) bytes)
 
--- A mask with no lane set marks none.
+-- A mask with no lane set is the mask of the empty class.
 pub no_marks : (n : ℕ) (bytes : List ℕ) → length bytes ≡ n →
     map (to_z w8) (zip2 (λ a b. ones (not (eqb a b))) (replicate n 0) (replicate n 0)) ≡ marks_of (λ _. false) bytes
 no_marks n bytes long =
@@ -31,25 +33,25 @@ no_marks n bytes long =
     ∙ ap (map (λ a. ones (not (eqb a 0)))) (splat_is_map bytes n 0 long)
     ∙ map-map (λ a. ones (not (eqb a 0))) (λ _. 0) bytes)
 
--- A comparison with a number marks the bytes that are equal to it.
+-- A comparison for equality gives the mask of one byte.
 pub equal_marks : (byte n : ℕ) (bytes : List ℕ) → length bytes ≡ n →
     map (to_z w8) (zip2 equal bytes (replicate n byte)) ≡ marks_of (λ b. eqb b byte) bytes
 equal_marks byte n bytes long = marked (λ b. eqb b byte) bytes _ (zip2_splat equal bytes n byte long)
 
--- Another marks those that are that or more.
+-- A comparison by `≤` gives the mask of the bytes at or above a number.
 pub least_marks : (least n : ℕ) (bytes : List ℕ) → length bytes ≡ n →
     map (to_z w8) (zip2 (λ a b. ones (leb a b)) (replicate n least) bytes) ≡ marks_of (leb least) bytes
 least_marks least n bytes long = marked (leb least) bytes _ (zip2_splat_left (λ a b. ones (leb a b)) least n bytes long)
 
--- A byte is F0 to F7 (hexadecimal) where its upper five bits are those of F0,
+-- A byte is F0 to F7 (hexadecimal) if its upper five bits are those of F0.
 pub four_by_bits : (b : ℕ) → b < 0x100 → eqb (bit_and b 0xF8) 0xF0 ≡ is_four b
 four_by_bits b h = agree_below_at (λ b. eqb (bit_and b 0xF8) 0xF0) is_four 0x100 b refl h
 
--- and it continues a character where its upper two bits are those of 80.
+-- A byte is a continuation byte if its upper two bits are those of 80 (hexadecimal).
 pub continues_by_bits : (b : ℕ) → b < 0x100 → eqb (bit_and b 0xC0) 0x80 ≡ (leb 0x80 b && ltb b 0xC0)
 continues_by_bits b h = agree_below_at (λ b. eqb (bit_and b 0xC0) 0x80) (λ b. leb 0x80 b && ltb b 0xC0) 0x100 b refl h
 
--- A comparison of some bits marks the class that they tell.
+-- A comparison of some bits gives the mask of the class that these bits decide.
 pub masked_marks : (class : ℕ → Bool) (bits byte : ℕ) → ((b : ℕ) → b < 0x100 → eqb (bit_and b bits) byte ≡ class b) →
     (n : ℕ) (bytes : List ℕ) → length bytes ≡ n → Each1 (Fits w8) bytes →
     map (to_z w8) (zip2 equal (zip2 bit_and bytes (replicate n bits)) (replicate n byte)) ≡ marks_of class bytes
@@ -62,10 +64,11 @@ masked_marks class bits byte told n bytes long fits =
     ∙ map_agree _ _ bytes (Each1-weaker (Fits w8) _ (λ b h. ap ones (told b h.fits)) bytes fits)
     )
 
+-- Joining two lanes by bits joins their tests.
 either_ones : (s t : Bool) → bit_or (of_z w8 (lane s)) (of_z w8 (lane t)) ≡ ones (s || t)
 either_ones s t = grind arith
 
--- The marks of two classes, joined, are those of both.
+-- The union of two masks is the mask of the union of their classes.
 pub either_marks : (p q : ℕ → Bool) (bytes : List ℕ) (ps qs : List ℤ) → ps ≡ marks_of p bytes → qs ≡ marks_of q bytes →
     map (to_z w8) (zip2 bit_or (map (of_z w8) ps) (map (of_z w8) qs)) ≡ marks_of (λ b. p b || q b) bytes
 either_marks p q bytes ps qs of_p of_q =
@@ -76,10 +79,11 @@ either_marks p q bytes ps qs of_p of_q =
     ∙ map_agree _ _ bytes (Each1-all (λ b. bit_or (of_z w8 (lane (p b))) (of_z w8 (lane (q b))) ≡ ones (p b || q b)) (λ b. either_ones (p b) (q b)) bytes)
     )
 
+-- Three lanes of all ones, joined as in `range_marks`.
 range_ones : (s t u : Bool) → bit_or (ones s) (bit_and (ones t) (ones u)) ≡ ones (s || (t && u))
 range_ones s t u = grind arith
 
--- Three comparisons mark the bytes that are below one number, or from a second on below a third.
+-- Three comparisons give the mask of the bytes that are below x, or from y up to below z.
 pub range_marks : (x y z n : ℕ) (bytes : List ℕ) → length bytes ≡ n →
     map (to_z w8) (zip2 bit_or (zip2 below bytes (replicate n x))
     (zip2 bit_and (zip2 (λ a b. ones (leb a b)) (replicate n y) bytes) (zip2 below bytes (replicate n z))))
@@ -94,22 +98,23 @@ range_marks x y z n bytes long =
     (λ b. range_ones (ltb b x) (leb y b) (ltb b z)) bytes)
     )
 
+-- The highest bit of a lane is its test.
 top_of_lane : (t : Bool) → top 7 (of_z w8 (lane t)) ≡ t
 top_of_lane t = grind arith
 
--- The highest bits of the marks tell of each byte whether it is of the class.
+-- The highest bits of a mask are the tests of the bytes.
 tops_of_marks : (p : ℕ → Bool) (bytes : List ℕ) (marks : List ℤ) → marks ≡ marks_of p bytes →
     map (top 7) (map (of_z w8) marks) ≡ map p bytes
 tops_of_marks p bytes marks are = grind (arith, Each1-all, map-map, map_agree, top_of_lane)
 
--- So do the bits.
+-- The bits that a mask is converted to are the tests of the bytes.
 pub bits_of_marks : (p : ℕ → Bool) (n : ℕ) (bytes : List ℕ) (marks : List ℤ) → marks ≡ marks_of p bytes → length bytes ≡ n → n ≤ 64 →
     mask_l (map (top 7) (map (of_z w8) marks)) % 2 ^ 64 ≡ mask_l (map p bytes)
 bits_of_marks p n bytes marks are long small =
     ap (λ ts. mask_l ts % 2 ^ 64) (tops_of_marks p bytes marks are)
     ∙ mask_l-mod (map p bytes) 64 (omega (arith, length-map bytes p))
 
--- Marks choose between two numbers.
+-- A mask selects between two numbers.
 pub chosen_by_marks : (p : ℕ → Bool) (n some other : ℕ) (bytes : List ℕ) (marks : List ℤ) → marks ≡ marks_of p bytes → length bytes ≡ n →
     sel_l (map (top 7) (map (of_z w8) marks)) (replicate n some) (replicate n other) ≡ map (λ b. cond (p b) some other) bytes
 chosen_by_marks p n some other bytes marks are long =

@@ -1,4 +1,4 @@
--- The ends of lists: vectors at the front and at the end, which overlap, and what stays behind an index.
+-- The first and the last elements of a list, which may overlap, and what follows an index.
 use Rattle.std.proofs.lemmas.Grind.{common_steps}
 use Rattle.std.proofs.Common.{◌≡◌, ℕ, Bool, IsTrue, ◌||◌, ◌+◌, ◌-◌, ◌*◌, ◌≤◌, ◌↔◌, List, length, take, drop, sym, ap, ◌∙◌, subst, ⊎_elim, arith}
 use Rattle.std.specs.List.{Any}
@@ -6,17 +6,17 @@ use Rattle.std.proofs.lemmas.Bool.{or_cases, or_left, or_right}
 use Rattle.std.proofs.lemmas.List.{take-append-drop, drop-drop}
 use Rattle.cesu8_text.proofs.lists.Elements.{any_left, any_right, any_append}
 
--- P holds of an element where it holds of one from an index on.
+-- If an element from an index on has P, some element has.
 pub any_drop : (P : ℕ → Type 0) (n : ℕ) (xs : List ℕ) → Any P (drop n xs) → Any P xs
 any_drop P n xs any = subst (Any P) (take-append-drop n xs) (any_right P (take n xs) (drop n xs) any)
 
--- P holds of an element from an index on where it holds of one from a later index on.
+-- If an element from an index on has P, so has one from an earlier index on.
 pub any_later : (P : ℕ → Type 0) (a b : ℕ) (xs : List ℕ) → a ≤ b → Any P (drop b xs) → Any P (drop a xs)
 any_later P a b xs order any =
     let index : a + (b - a) ≡ b = omega arith in
     any_drop P (b - a) (drop a xs) (subst (Any P) (sym (drop-drop (b - a) a xs ∙ ap (λ i. drop i xs) index)) any)
 
--- Tests of the first n elements and of the last n, which are all, tell whether P holds of one.
+-- Tests of the first n elements and of the last n decide for the whole, if together they cover it.
 pub ends_tell : (P : ℕ → Type 0) (n : ℕ) (xs : List ℕ) (front end : Bool) → n ≤ length xs → length xs ≤ 2 * n →
     (IsTrue front ↔ Any P (take n xs)) → (IsTrue end ↔ Any P (drop (length xs - n) xs)) → IsTrue (front || end) ↔ Any P xs
 ends_tell P n xs front end fits covers f e = (
@@ -27,7 +27,7 @@ ends_tell P n xs front end fits covers f e = (
       (any_append P (take n xs) (drop n xs) (subst (Any P) (sym (take-append-drop n xs)) any))),
 )
 
--- What stays as it was behind an index does so behind a later one.
+-- If nothing from an index on changes, nothing from a later index on does.
 pub stays_behind : (old new : List ℕ) (at end : ℕ) → at ≤ end → drop at new ≡ drop at old → drop end new ≡ drop end old
 stays_behind old new at end later same =
     grind (arith, common_steps, drop-drop (end - at) at new, drop-drop (end - at) at old)

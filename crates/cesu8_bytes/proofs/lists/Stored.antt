@@ -6,7 +6,7 @@ use Rattle.std.proofs.Math.Seq.{take-append-add, take-add}
 use Rattle.std.proofs.lemmas.Simd.{length-put_chunk, take_more_put_chunk}
 use Rattle.cesu8_bytes.specs.Puts.{WritesAt}
 
--- A vector that is stored is written.
+-- Storing a vector writes its lanes.
 pub vector_written : (at n : ℕ) (lanes out : List ℕ) → n ≡ at + length lanes → n ≤ length out → WritesAt lanes at out (put_chunk at out lanes) n
 vector_written at n lanes out end room = record {
   bytes = take_more_put_chunk at out lanes n end room;
@@ -14,7 +14,7 @@ vector_written at n lanes out end room = record {
   len = length-put_chunk at out lanes;
 }
 
--- Of bytes that are written the first ones stand there too.
+-- If bytes are written, so is each prefix of them.
 pub first_written : (run at n : ℕ) (bytes old new : List ℕ) → run ≤ length bytes → at ≤ length old → WritesAt bytes at old new n →
     WritesAt (take run bytes) at old new (at + run)
 first_written run at n bytes old new le room put = record {
@@ -26,7 +26,7 @@ first_written run at n bytes old new le room put = record {
   len = put.len;
 }
 
--- The bytes behind a vector that is stored stay.
+-- Storing a vector does not change the bytes after it.
 pub behind_stored : (at m : ℕ) (out lanes : List ℕ) → at + length lanes ≤ m → drop m (put_chunk at out lanes) ≡ drop m out
 behind_stored at m [] lanes le = refl
 behind_stored zero m (x ∷ out) [] le = refl
@@ -35,7 +35,7 @@ behind_stored zero (suc m) (x ∷ out) (y ∷ lanes) le = behind_stored zero m o
 behind_stored (suc at) zero (x ∷ out) lanes le = absurd (omega arith)
 behind_stored (suc at) (suc m) (x ∷ out) lanes le = behind_stored at m out lanes (omega arith)
 
--- Vectors at both ends of some bytes, which together cover them, store all of them.
+-- Vectors stored at both ends of some bytes, which together cover them, store all of them.
 pub ends_stored : (n : ℕ) (bytes out : List ℕ) → n ≤ length bytes → length bytes ≤ 2 * n → length bytes ≤ length out →
     put_chunk (length bytes - n) (put_chunk 0 out (take n bytes)) (drop (length bytes - n) bytes) ≡ bytes ++ drop (length bytes) out
 ends_stored n bytes out many few room =
@@ -52,12 +52,13 @@ ends_stored n bytes out many few room =
     let behind = behind_stored at len first end (omega arith) ∙ behind_stored 0 len out (take n bytes) (omega arith) in
     grind (arith, take-append-drop at bytes, take-append-drop len second, before, prefix, behind)
 
--- Bytes that were appended, cut back to an index and appended again from there on, stand there once.
+-- Bytes that are appended, truncated to an index and appended again from there on are appended
+-- once.
 pub appended_again : (before bytes : List ℕ) (at written n : ℕ) → at ≤ written →
     take (length before + at) (before ++ take written bytes) ++ take n (drop at bytes) ≡ before ++ take (at + n) bytes
 appended_again before bytes at written n le = grind (arith, append_assoc, take-add, take-append-add, take-take)
 
--- Bytes that are written behind others are written with them,
+-- Bytes that are written after others are written together with them.
 pub written_behind : (first more old between new : List ℕ) (at end after : ℕ) → WritesAt first at old between end → WritesAt more end between new after →
     WritesAt (first ++ more) at old new after
 written_behind first more old between new at end after so_far next = record {
@@ -66,7 +67,7 @@ written_behind first more old between new at end after so_far next = record {
   len = next.len ∙ so_far.len;
 }
 
--- and what is written by four calls as well.
+-- Bytes that are written by four calls in turn are written together.
 pub written_by_four : (a b c d x0 x1 x2 x3 x4 : List ℕ) (n0 n1 n2 n3 n4 : ℕ) → WritesAt a n0 x0 x1 n1 → WritesAt b n1 x1 x2 n2 → WritesAt c n2 x2 x3 n3 →
     WritesAt d n3 x3 x4 n4 → WritesAt (a ++ (b ++ (c ++ d))) n0 x0 x4 n4
 written_by_four a b c d x0 x1 x2 x3 x4 n0 n1 n2 n3 n4 wa wb wc wd =

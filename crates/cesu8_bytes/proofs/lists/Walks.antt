@@ -1,12 +1,13 @@
--- A walk over a list that finds no element of a kind.
+-- A loop over a list that has found no element with a property so far.
 use Rattle.std.proofs.lemmas.Grind.{common_steps}
 use Rattle.std.proofs.Common.{◌≡◌, ℕ, ◌+◌, ◌<◌, List, arith, length, get_or}
 
 module _ {X : Type 0} (P : X → Type 0) (xs : List X) where
-  -- P holds of no element before an index.
+  -- P holds of no element before the index.
   abbrev pub NoneBefore : ℕ → Type 0
   NoneBefore n = (i : ℕ) (x : X) → i < n → i < length xs → get_or xs i x ≡ x → P x → ⊥
 
-  -- Where P holds of none before an index and not of the one there, it holds of none before the next index.
+  -- If P holds of no element before an index, and not of the one there, it holds of none before the
+  -- next.
   pub none_with_next : (n : ℕ) (e : X) → n < length xs → NoneBefore n → (P (get_or xs n e) → ⊥) → NoneBefore (n + 1)
   none_with_next n e l none this = grind (arith, common_steps)

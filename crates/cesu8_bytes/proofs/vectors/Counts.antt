@@ -1,4 +1,4 @@
--- What bytes weigh: by parts, and by marks.
+-- The sum of the weights of bytes, from the sums of parts, and from the bits and lanes of masks.
 use Rattle.std.proofs.lemmas.Bool.Decides.{nat_tests}
 use Rattle.std.proofs.lemmas.Grind.{common_steps}
 use Rattle.std.proofs.Common.{◌≡◌, ℕ, ◌+◌, ◌*◌, ◌<◌, ◌≤◌, Bool, cond, List, [], ◌∷◌, length, map, take, drop, replicate, refl, sym, ap, ◌∙◌, subst, arith, count_by, sum_by, count_ones, ◌/◌, ◌^◌, Fits, w8, w32}
@@ -14,50 +14,53 @@ use Rattle.cesu8_bytes.proofs.lists.Classes.{marks_of, chosen_by_marks}
 
 -- ---- what bytes add
 
--- Those of the class add one each, and those that lead four add two.
+-- The sum of the weights is the count of the class, plus twice the count of four-byte leads.
 pub weight_by_counts : (class : ℕ → Bool) (bytes : List ℕ) → count_by class bytes + 2 * count_by is_four bytes ≡ sum_by (weight_of class) bytes
 weight_by_counts class [] = refl
 weight_by_counts class (b ∷ bytes) = grind (arith, nat_tests, common_steps, sum_by-cons, weight_by_counts class bytes)
 
--- If none adds more than two, all add at most twice their number.
+-- If no byte weighs more than two, the sum is at most twice the length.
 pub weight_bound : (class : ℕ → Bool) → ((b : ℕ) → weight_of class b ≤ 2) → (bytes : List ℕ) → sum_by (weight_of class) bytes ≤ 2 * length bytes
 weight_bound class low [] = omega arith
 weight_bound class low (b ∷ bytes) = omega (arith, sum_by-cons (weight_of class) b bytes, low b, weight_bound class low bytes)
 
 -- ---- sums by parts
 
--- A chunk's sum and that of the elements after it make up the sum of both.
+-- The sum so far and that of a chunk, plus the sum of what follows, is the sum of the whole.
 pub sum_by_chunk : (f : ℕ → ℕ) (n : ℕ) (xs chunk after : List ℕ) (so_far here whole : ℕ) →
     chunk ≡ take n xs → after ≡ drop n xs → here ≡ sum_by f chunk → so_far + sum_by f xs ≡ whole →
     so_far + here + sum_by f after ≡ whole
 sum_by_chunk f n xs chunk after so_far here whole front back summed known =
     omega (arith, sum_by-take-drop f xs n, summed ∙ ap (sum_by f) front, ap (sum_by f) back)
 
--- With n elements more.
+-- The sum of the first a elements and of the next n is the sum of the first a + n.
 pub sum_by_next : (f : ℕ → ℕ) (xs : List ℕ) (a n : ℕ) → sum_by f (take a xs) + sum_by f (chunk a n xs) ≡ sum_by f (take (a + n) xs)
 sum_by_next f xs a n = grind (arith, drop-drop, sum_by-take-drop)
 
 -- ---- bits of marks
 
--- The bits of a mask behind the first n are as many as the elements behind these that pass.
+-- The bits of a mask above the first n are as many as the later elements that pass.
 pub bits_behind : (p : ℕ → Bool) (xs : List ℕ) (n bits : ℕ) → n ≤ length xs → bits ≡ mask_l (map p xs) → count_ones (bits / 2 ^ n) ≡ count_by p (drop n xs)
 bits_behind p xs n bits le is = grind (arith, drop-map, length-map, mask_rest, ones-mask_l)
 
 -- ---- lanes that count their own bytes
 
--- A one for each element that passes.
+-- One for each element that passes, and zero for the others.
 abbrev pub ones : (ℕ → Bool) → List ℕ → List ℕ
 ones p xs = map (λ x. cond (p x) 1 0) xs
 
+-- Each of them is at most one.
 ones_low : (p : ℕ → Bool) (xs : List ℕ) → Each1 (λ a. a ≤ 1) (ones p xs)
 ones_low p [] = tt
 ones_low p (x ∷ xs) = (grind arith, ones_low p xs)
 
+-- Their sum is the number of elements that pass.
 ones_total : (p : ℕ → Bool) (xs : List ℕ) → sum_l (ones p xs) ≡ count_by p xs
 ones_total p [] = refl
 ones_total p (x ∷ xs) = grind (arith, common_steps, ones_total p xs)
 
--- After n vectors of a block each lane has counted at most n bytes, and all lanes those of the class.
+-- After n vectors of a block, each lane has counted at most n bytes, and their sum is the count of
+-- the class.
 pub record HaveCounted (p : ℕ → Bool) (block : List ℕ) (n : ℕ) (lanes : List ℕ) : Type 0 where
   pub long : length lanes ≡ 64
   pub low : Each1 (λ a. a ≤ n) lanes
@@ -68,26 +71,30 @@ module _ (p : ℕ → Bool) (block : List ℕ) (n : ℕ) (lanes : List ℕ) (mar
   abbrev more : List ℕ
   more = sel_l (map (top 7) (map (of_z w8) marks)) (replicate 64 1) (replicate 64 0)
 
+  -- What is added for the next vector is one for each byte of the class.
   ones_of_next : more ≡ ones p (chunk (64 * n) 64 block)
   ones_of_next = chosen_by_marks p 64 1 0 (chunk (64 * n) 64 block) marks marked (length-chunk (64 * n) 64 block room)
 
+  -- It has 64 lanes.
   more_long : length more ≡ 64
   more_long = ap length ones_of_next ∙ length-map (chunk (64 * n) 64 block) (λ x. cond (p x) 1 0) ∙ length-chunk (64 * n) 64 block room
 
+  -- Each lane of it is at most one.
   more_low : Each1 (λ a. a ≤ 1) more
   more_low = subst (Each1 (λ a. a ≤ 1)) (sym ones_of_next) (ones_low p (chunk (64 * n) 64 block))
 
-  -- A lane has room for one more.
+  -- Adding it does not overflow a lane.
   pub one_more_fits : n < 255 → Each2 (λ a b. Fits w8 (a + b)) lanes more
   one_more_fits few =
       Each2-of (λ a. a ≤ n) (λ b. b ≤ 1) (λ a b. Fits w8 (a + b)) (λ a b h k. record { fits = omega arith }) lanes more have.low more_low
 
+  -- Adding it adds the count of the next 64 bytes.
   total_more : sum_l (zip2 (λ a b. a + b) lanes more) ≡ count_by p (take (64 * n + 64) block)
   total_more =
       let more_total : sum_l more ≡ count_by p (chunk (64 * n) 64 block) = ap sum_l ones_of_next ∙ ones_total p (chunk (64 * n) 64 block) in
       omega (arith, sum-zip2 lanes more (have.long ∙ sym more_long), sum_by_next (λ y. cond (p y) 1 0) block (64 * n) 64)
 
-  -- One vector more is counted.
+  -- After it is added, one more vector is counted.
   pub counted_more : HaveCounted p block (n + 1) (zip2 (λ a b. a + b) lanes more)
   counted_more = record {
     long = length-zip2 (λ a b. a + b) lanes more (have.long ∙ sym more_long) ∙ have.long;
@@ -96,13 +103,13 @@ module _ (p : ℕ → Bool) (block : List ℕ) (n : ℕ) (lanes : List ℕ) (mar
     total = grind (arith, total_more);
   }
 
--- All vectors of a block have counted all that its bytes add.
+-- After all vectors of a block, the sums of the lanes give the sum of the weights.
 pub block_counted : (class : ℕ → Bool) (block : List ℕ) (n : ℕ) (ones fours : List ℕ) →
     length block ≤ 64 * n → HaveCounted class block n ones → HaveCounted is_four block n fours →
     sum_l ones + 2 * sum_l fours ≡ sum_by (weight_of class) block
 block_counted class block n ones fours whole of_class of_four = grind (arith, take_all, weight_by_counts)
 
--- The sum of dot products with ones is the sum of the lanes, which fits.
+-- The sum of dot products with ones is the sum of the lanes, and does not overflow.
 module _ (n : ℕ) (few : n ≤ 16) (lanes : List ℕ) (long : length lanes ≡ 4 * n) (fits : Each1 (Fits w8) lanes) where
   dots_total : sum_l (dots lanes (replicate (4 * n) 1)) ≡ sum_l lanes
   dots_total =

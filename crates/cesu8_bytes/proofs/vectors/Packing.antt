@@ -1,4 +1,4 @@
--- How bytes are packed by a shuffle that leaves out those that go, and 32 by four of these.
+-- Packing by a shuffle that drops some lanes, and packing 32 bytes by four such shuffles.
 use Rattle.std.proofs.lemmas.Grind.{common_steps}
 use Rattle.std.proofs.Common.{◌≡◌, ℕ, zero, suc, ◌+◌, ◌/◌, ◌%◌, ◌-◌, ◌^◌, ◌<◌, ◌≤◌, Bool, true, false, cond, List, [], ◌∷◌, ◌++◌, map, length, take, drop, get_or, replicate, leb, refl, sym, ap, ◌∙◌, subst, arith, w8, length-append, append-nil, append_assoc, bit_and}
 use Rattle.std.specs.List.{range_with_len}
@@ -14,19 +14,21 @@ use Rattle.cesu8_bytes.proofs.vectors.Rows.{lowest, shuffled, first_mask, row_ma
 
 -- ---- a shuffle by the lower halves of numbers
 
+-- The lower halves of a row's numbers.
 abbrev low_halves : List ℕ → List ℕ
 low_halves row = zip2 bit_and row (replicate 16 0x0F)
 
+-- They are below 16.
 low_below : (row : List ℕ) → Each1 (λ j. j < 16) (low_halves row)
 low_below row =
     Each1-zip2 bit_and (λ j. j < 16) row (replicate 16 0x0F) (Each2-splat (λ a b. bit_and a b < 16) row 16 0x0F
     (Each1-all (λ a. bit_and a 0x0F < 16) (λ a. omega (arith, and_le_r a 0x0F)) row))
 
--- Each of them is below 16,
+-- They are valid indices of a shuffle.
 pub low_ok : (row : List ℕ) → length row ≡ 16 → SwzOk w8 16 16 0 (low_halves row)
 low_ok row long = SwzOk-from_below w8 16 1 16 0 (low_halves row) refl (omega (arith, length-zip2 bit_and row (replicate 16 0x0F) long)) (low_below row)
 
--- and the lanes at these indices are picked.
+-- The shuffle selects the lanes at these indices.
 pub low_picked : (lanes row : List ℕ) → length row ≡ 16 → swz_l w8 16 lanes 0 (low_halves row) ≡ map (λ j. get_or lanes (j % 0x10) 0) row
 low_picked lanes row long =
     shuffled lanes (low_halves row) (length-zip2 bit_and row (replicate 16 0x0F) long ∙ long) (low_below row)
@@ -36,10 +38,11 @@ low_picked lanes row long =
 
 -- ---- what is kept of some bytes
 
--- Where one of them is ill-formed, lanes 4 to 6 have the replacement character.
+-- If some byte is ill-formed, lanes 4 to 6 have the bytes of U+FFFD.
 abbrev HasReplacement : (ℕ → ℕ) → ℕ → Type 0
 HasReplacement lane ill_formed = 0 < ill_formed → map lane (4 ∷ 5 ∷ 6 ∷ []) ≡ 0xEF ∷ 0xBF ∷ 0xBD ∷ []
 
+-- The lanes kept for one byte are what is written for it.
 kept_one : (g : ℕ → ℕ) (i : ℕ) (s d : Bool) (xs ys : List ℕ) → (d ≡ true → map g (4 ∷ 5 ∷ 6 ∷ []) ≡ 0xEF ∷ 0xBF ∷ 0xBD ∷ []) → map g xs ≡ ys →
     map g (cond d (4 ∷ 5 ∷ 6 ∷ []) (cond s [] (i ∷ [])) ++ xs) ≡ written_for s d (g i) ++ ys
 kept_one g i s d xs ys r e = grind (arith, common_steps)
@@ -56,7 +59,8 @@ kept_written g (s ∷ gone) (d ∷ ill_formed) i e r =
     let behind = λ (some : 0 < mask_l ill_formed). r (omega arith) in
     rw (goes.0, goes.1, fails.0, fails.1) (kept_one g i s d _ _ here (kept_written g gone ill_formed (i + 1) (omega arith) behind))
 
--- So they are for some tests whose sets they are kept by.
+-- The lanes that are kept by two sets of bits are what is written for the tests that these bits
+-- are.
 pub lanes_written : (n gone_set ill_formed_set : ℕ) (lanes : List ℕ) (gone ill_formed : List Bool) → length gone ≡ n → length ill_formed ≡ n →
     gone_set ≡ mask_l gone → ill_formed_set ≡ mask_l ill_formed → lanes_at lanes (range_with_len 0 n) ≡ chunk 0 n lanes →
     HasReplacement (λ j. get_or lanes (j % 0x10) 0) ill_formed_set →
@@ -65,10 +69,11 @@ lanes_written n gone_set ill_formed_set lanes gone ill_formed g d gone_is ill_fo
 
 -- ---- a row that keeps some lanes
 
+-- Whether at most so many lanes are kept for a set.
 unfoldable pub is_short : (ℕ → List ℕ) → ℕ → ℕ → Bool
 is_short kept most set = leb (length (kept set)) most
 
--- So many lanes at most are kept for each of 256 sets, where a look at them all says so.
+-- If a computation over all 256 sets says so, at most so many lanes are kept for each.
 pub at_most : (kept : ℕ → List ℕ) (most : ℕ) → agree_below (is_short kept most) (λ _. true) 0x100 ≡ true →
     (set : ℕ) → set < 0x100 → length (kept set) ≤ most
 unfolding is_short
@@ -82,17 +87,19 @@ module _ (n gone_set ill_formed_set most : ℕ) (row : List ℕ) (row_is : row �
   abbrev zeros : List ℕ
   zeros = replicate (15 - length kept) 0
 
+  -- A row has 15 numbers before its last.
   prefix_long : length (kept ++ zeros) ≡ 15
   prefix_long = omega (arith, length-append kept zeros, length-replicate {A = ℕ} (15 - length kept) 0)
 
-  -- The last number of a row is how many lanes are kept.
+  -- The last number of a row is how many lanes it keeps.
   last_is : get_or row 15 0 ≡ length kept
   last_is = ap (λ r. get_or r 15 0) row_is ∙ get_or_at (kept ++ zeros) (length kept) [] 0 15 prefix_long
 
+  -- It is at most the bound.
   pub end_of_row : get_or row 15 0 ≤ most
   end_of_row = omega (arith, last_is)
 
-  -- Where all lanes of the row are stored, those that it keeps are written.
+  -- Storing all lanes of a row writes those that it keeps.
   pub row_written : (lanes out packed : List ℕ) (at : ℕ) → at + 16 ≤ length out → packed ≡ lanes_at lanes row →
       WritesAt (lanes_at lanes kept) at out (put_chunk at out packed) (at + get_or row 15 0)
   row_written lanes out packed at room is =
@@ -107,16 +114,18 @@ module _ (n gone_set ill_formed_set most : ℕ) (row : List ℕ) (row_is : row �
 
 -- ---- eight bytes
 
+-- The lanes that a row of eight bytes keeps.
 abbrev kept_of_eight : ℕ → List ℕ
 kept_of_eight gone = kept_of gone 0 0 8
 
+-- They are at most eight.
 pub few_of_eight : (gone : ℕ) → gone < 0x100 → length (kept_of_eight gone) ≤ 8
 unfolding is_short
 few_of_eight = at_most kept_of_eight 8 refl
 
 -- ---- bytes in parts
 
--- What is written for bytes is what is written for their front and for the rest.
+-- What is written for bytes is what is written for the first n, then what is written for the rest.
 pub written_parts : (n : ℕ) (gone ill_formed : List Bool) (bytes : List ℕ) → length gone ≡ length ill_formed → length gone ≡ length bytes →
     written gone ill_formed bytes ≡ written (take n gone) (take n ill_formed) (take n bytes) ++ written (drop n gone) (drop n ill_formed) (drop n bytes)
 written_parts zero gone ill_formed bytes e f = refl
@@ -127,10 +136,11 @@ written_parts (suc n) (g ∷ gone) (d ∷ ill_formed) (b ∷ bytes) e f =
     grind (arith, append_assoc, written_parts n gone ill_formed bytes)
 
 module _ (gone ill_formed : List Bool) (bytes : List ℕ) where
-  -- what is written for n bytes from a on, and for all from there on
+  -- What is written for n bytes from a on.
   abbrev pub part : ℕ → ℕ → List ℕ
   part a n = written (chunk a n gone) (chunk a n ill_formed) (chunk a n bytes)
 
+  -- What is written for all bytes from a on.
   abbrev rest : ℕ → List ℕ
   rest a = written (drop a gone) (drop a ill_formed) (drop a bytes)
 
@@ -141,20 +151,21 @@ module _ (gone ill_formed : List Bool) (bytes : List ℕ) where
         (omega (arith, length-drop a gone, length-drop a ill_formed)) (omega (arith, length-drop a gone, length-drop a bytes))
         ∙ rw (drop-drop n a gone, drop-drop n a ill_formed, drop-drop n a bytes) refl
 
+    -- The last part is all that is left.
     last : (a n : ℕ) → a + n ≡ long → rest a ≡ part a n
     last a n e = next a n ∙ rw (drop_all (a + n) gone (omega arith)) (append-nil (part a n))
 
-    -- What is written for all is what is written for each of four parts.
+    -- What is written for all bytes is what is written for four parts in turn.
     pub in_four : (n : ℕ) → 0 + n + n + n + n ≡ long → rest 0 ≡ part 0 n ++ (part (0 + n) n ++ (part (0 + n + n) n ++ part (0 + n + n + n) n))
     in_four n e = rw (next 0 n, next (0 + n) n, next (0 + n + n) n, last (0 + n + n + n) n e) refl
 
-    -- The same for two parts.
+    -- What is written for all bytes is what is written for two parts in turn.
     pub in_two : (n : ℕ) → 0 + n + n ≡ long → rest 0 ≡ part 0 n ++ part (0 + n) n
     in_two n e = rw (next 0 n, last (0 + n) n e) refl
 
 -- ---- 32 bytes
 
--- Lanes of a prefix are lanes of the whole.
+-- A chunk of a prefix is a chunk of the whole.
 chunk_take : {X : Type 0} (a n m : ℕ) (xs : List X) → a + n ≤ m → chunk a n (take m xs) ≡ chunk a n xs
 chunk_take a n m xs le =
     ap (λ k. chunk a n (take k xs)) (omega arith) ∙ ap (take n) (drop-take a (m - a) xs) ∙ take-take n (m - a) (drop a xs) (omega arith)
@@ -163,12 +174,15 @@ module _ (tests : List Bool) (bytes : List ℕ) (t : 32 ≤ length tests) (b : l
   abbrev none : List Bool
   none = replicate 32 false
 
+  -- What is written for eight bytes from a on.
   abbrev eight : ℕ → List ℕ
   eight a = part (take 32 tests) none bytes a 8
 
+  -- The lanes of a vector that a set keeps.
   abbrev kept_by : List ℕ → ℕ → List ℕ
   kept_by lanes set = lanes_at lanes (kept_of_eight set)
 
+  -- The lanes that the row of eight bytes keeps are what is written for them.
   kept_is : (lanes : List ℕ) (a set : ℕ) → a + 8 ≤ 32 → chunk 0 8 lanes ≡ chunk a 8 bytes → set ≡ mask_l (chunk a 8 tests) → kept_by lanes set ≡ eight a
   kept_is lanes a set le lanes_are set_is =
       let whole : chunk a 8 none ≡ replicate 8 false = ap (take 8) (drop-replicate a 32 false) ∙ take-replicate 8 (32 - a) false (omega arith) in
@@ -177,7 +191,7 @@ module _ (tests : List Bool) (bytes : List ℕ) (t : 32 ≤ length tests) (b : l
       (pick_l-range_with_len 0 lanes 0 8 (omega arith)) (λ some. absurd (omega arith))
       ∙ (λ i. written (sym (chunk_take a 8 32 tests le) i) (sym whole i) (lanes_are i))
 
-  -- What is kept of four times eight bytes is what is written for 32.
+  -- What four rows of eight bytes keep is what is written for 32 bytes.
   pub kept_of_four : (v0 v1 v2 v3 : List ℕ) (set : ℕ) → set ≡ mask_l tests →
       chunk 0 8 v0 ≡ chunk 0 8 bytes → chunk 0 8 v1 ≡ chunk 8 8 bytes → chunk 0 8 v2 ≡ chunk 16 8 bytes → chunk 0 8 v3 ≡ chunk 24 8 bytes →
       kept_by v0 (bit_and set 0xFF) ++ (kept_by v1 (bit_and (set / 2 ^ 8) 0xFF)

@@ -1,4 +1,4 @@
--- Bytes with zeros behind them: a shuffle by sixteen of the indices makes half a block of these.
+-- The shuffle of `padded_half` shifts a vector's last bytes to its start and fills it with zeros.
 use Rattle.std.proofs.Common.{◌≡◌, ℕ, ◌+◌, ◌-◌, ◌<◌, ◌≤◌, true, ◌||◌, List, ◌++◌, length, drop, get_or, replicate, eqb, refl, sym, ap, ◌∙◌, subst, arith, w8, length-append, ◌⊎◌, inl, inr}
 use Rattle.std.proofs.lemmas.Bool.{agree_below_at, cases_lt, eqb-true}
 use Rattle.std.proofs.lemmas.List.{ext_get_or, get_or_append_left, get_or-append_right, get_or-drop, length-drop}
@@ -8,20 +8,22 @@ use lib.Lanes.{chunk}
 use mir.Val.{zeroes}
 use Rattle.cesu8_bytes.specs.declared.lanes.padded.TheConstants.{INDICES}
 
--- Sixteen neighbouring indices.
+-- The sixteen indices of the shuffle that shifts by `behind` lanes.
 abbrev pub indices_from : ℕ → List ℕ
 indices_from behind = chunk 0 16 (chunk behind (32 - behind) INDICES)
 
+-- The index in lane m.
 index_at : (behind m : ℕ) → behind ≤ 16 → m < 16 → get_or (indices_from behind) m 0 ≡ get_or INDICES (behind + m) 0
 index_at behind m low l =
     let here : 0 + m ≡ m = omega arith in
     get_or-chunk 0 16 (chunk behind (32 - behind) INDICES) m 0 l ∙ ap (λ k. get_or (chunk behind (32 - behind) INDICES) k 0) here
     ∙ get_or-chunk behind (32 - behind) INDICES m 0 (omega arith)
 
+-- There are sixteen of them.
 long_indices : (behind : ℕ) → behind ≤ 16 → length (indices_from behind) ≡ 16
 long_indices behind low = length-chunk 0 16 (chunk behind (32 - behind) INDICES) (omega (arith, length-chunk behind (32 - behind) INDICES (omega arith)))
 
--- An index is one of a half, or gives zero.
+-- Each selects one of sixteen lanes, or gives zero.
 pub indices_ok : (behind : ℕ) → behind ≤ 16 → SwzOk w8 16 16 0 (indices_from behind)
 indices_ok behind low =
     SwzOk-from_Each1 w8 16 1 16 0 (indices_from behind) refl (omega (arith, long_indices behind low))
@@ -30,15 +32,15 @@ indices_ok behind low =
     subst (λ j. T (zeroes 16 w8 j || ltb j 16)) (sym (index_at behind m low small))
     (subst T (sym (agree_below_at (λ k. zeroes 16 w8 (get_or INDICES k 0) || ltb (get_or INDICES k 0) 16) (λ _. true) 32 (behind + m) refl (omega arith))) _)))
 
--- The first sixteen indices are those of a half,
+-- Each of the first sixteen indices selects its own lane.
 index_of_half : (j : ℕ) → j < 16 → get_or INDICES j 0 ≡ j
 index_of_half j l = eqb-true _ _ (agree_below_at (λ k. eqb (get_or INDICES k 0) k) (λ _. true) 16 j refl l)
 
--- and the others give zero.
+-- The others give zero.
 index_behind : (k : ℕ) → k < 16 → zeroes 16 w8 (get_or INDICES (16 + k) 0) ≡ true
 index_behind k l = agree_below_at (λ k. zeroes 16 w8 (get_or INDICES (16 + k) 0)) (λ _. true) 16 k refl l
 
--- A lane is that of the bytes behind some, or zero behind them all.
+-- A lane of the result is the byte `behind` lanes further on, or zero past the end.
 lane_is : (last : List ℕ) (behind m : ℕ) → length last ≡ 16 → behind ≤ 16 → m < 16 → (behind + m < 16) ⊎ (16 ≤ behind + m) →
     get_or (swz_l w8 16 last 0 (indices_from behind)) m 0 ≡ get_or (drop behind last ++ replicate behind 0) m 0
 lane_is last behind m long low l (inl below) =
@@ -56,7 +58,7 @@ lane_is last behind m long low l (inr above) =
     (sym (get_or-append_right (drop behind last) (replicate behind 0) (length (drop behind last)) m 0 refl (omega arith)
     ∙ get_or-replicate {A = ℕ} behind (m - length (drop behind last)) 0 0 (omega arith)))
 
--- The shuffle moves the last ones to the front.
+-- The shuffle shifts the bytes from `behind` on to the start, and fills with zeros.
 pub moved : (last : List ℕ) (behind : ℕ) → length last ≡ 16 → behind ≤ 16 → swz_l w8 16 last 0 (indices_from behind) ≡ drop behind last ++ replicate behind 0
 moved last behind long low =
     let many : length (swz_l w8 16 last 0 (indices_from behind)) ≡ 16 = length-swz_l w8 16 last 0 (indices_from behind) ∙ long_indices behind low in

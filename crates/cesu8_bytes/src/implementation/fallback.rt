@@ -1,4 +1,4 @@
-//! One byte at a time: the plainest kernels. `word` calls them for fewer than eight bytes.
+//! The simplest kernels: one byte at a time. `word` calls them for fewer than eight bytes.
 
 ghost use Rattle.std.specs.Prelude.{IsTrue, ◌↔◌, Any};
 ghost use Rattle.cesu8_text.specs.Class.{IsFour, IsNullFour};

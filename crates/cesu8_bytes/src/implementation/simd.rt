@@ -1,4 +1,4 @@
-//! Up to 64 bytes at a time, as the lanes of a vector. `active` has these kernels.
+//! Kernels that test up to 64 bytes at a time, as the lanes of a vector. `active` exports them.
 
 ghost use Rattle.std.specs.Prelude.{◌≡◌, ◌≤◌, ◌<◌, ◌↔◌, IsTrue, Any, IfSome, IfNone, length};
 ghost use Rattle.cesu8_text.specs.Class.{is_four, is_null_four, IsFour, IsNullFour};
@@ -38,8 +38,7 @@ pub fn contains_null_or_utf8_4_byte_char_header(value: &[u8]) -> bool
     lanes_null_four(value, fallback::contains_null_or_utf8_4_byte_char_header)
 }
 
-/// Returns whether some byte is F0 to F7 (hexadecimal), where the fallback tests a single byte that
-/// is left.
+/// Like `contains_utf8_4_byte_char_header`, with `fallback` for a single byte that is left over.
 #[inline(always)]
 fn lanes_four<F: Fn(&[u8]) -> bool>(value: &[u8], fallback: F) -> bool
     requires { MayTest (λ len. len ≡ 1) F.Fn fallback }
@@ -49,8 +48,8 @@ fn lanes_four<F: Fn(&[u8]) -> bool>(value: &[u8], fallback: F) -> bool
     any_by_widths::<FourByteLead, F>(value, fallback)
 }
 
-/// Returns whether some byte is 00, or F0 to F7 (hexadecimal), where the fallback tests a single
-/// byte that is left.
+/// Like `contains_null_or_utf8_4_byte_char_header`, with `fallback` for a single byte that is left
+/// over.
 #[inline(always)]
 fn lanes_null_four<F: Fn(&[u8]) -> bool>(value: &[u8], fallback: F) -> bool
     requires { MayTest (λ len. len ≡ 1) F.Fn fallback }
@@ -60,8 +59,8 @@ fn lanes_null_four<F: Fn(&[u8]) -> bool>(value: &[u8], fallback: F) -> bool
     any_by_widths::<Either<Null, FourByteLead>, F>(value, fallback)
 }
 
-/// Returns whether some byte is in a class: the chunks of each width are tested in turn, of what the
-/// wider ones leave, and the fallback tests a single byte that is left.
+/// Returns whether some byte is in a class. Each width tests the whole chunks of what the wider
+/// ones left over, and `fallback` tests a single byte at the end.
 #[inline(always)]
 fn any_by_widths<C, F: Fn(&[u8]) -> bool>(value: &[u8], fallback: F) -> bool
 where
@@ -91,7 +90,7 @@ where
     !rest.is_empty() && fallback(rest)
 }
 
-/// Returns what the chunks of a width leave, or none if a byte of theirs is in the class.
+/// Returns the bytes after the whole chunks, or `None` if some byte of a chunk is in the class.
 #[inline(always)]
 fn left_by<C: InGroups<N>, const N: usize>(bytes: &[u8]) -> Option<&[u8]>
     requires { (0 < N) × (N ≤ LANES) }
@@ -110,7 +109,7 @@ fn left_by<C: InGroups<N>, const N: usize>(bytes: &[u8]) -> Option<&[u8]>
 mod tests {
     use super::{lanes_four, lanes_null_four};
 
-    /// The fallback is called if one byte is left, and only then.
+    /// The fallback is called if one byte is left over, and only then.
     #[test]
     fn asks_the_fallback_of_a_last_byte(rt: HostRuntime) {
         let cases = [

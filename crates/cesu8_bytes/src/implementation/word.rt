@@ -1,9 +1,11 @@
-//! Eight bytes at a time, as one word. `active` has `simd` instead, so tests and users call these.
+//! Kernels that test eight bytes at a time, as one word. `active` exports those of `simd` instead,
+//! so only tests and users call these.
 //!
-//! A word has a byte 00 exactly where subtracting 1 from each byte sets the high bit of some byte
-//! that did not have it. Through the borrow, a byte 01 above a 00 may get its high bit too. So the
-//! test finds whether some byte is 00, but not which. A byte is F0 to F7 (hexadecimal) if its upper
-//! five bits are those of F0; flipping the bits of F0 makes them 00.
+//! A word has a byte 00 if and only if subtracting 1 from each byte sets the high bit of some byte
+//! that did not have it set. Because of the borrow, a byte 01 above a 00 may get its high bit set
+//! too. So the test finds whether some byte is 00, but not which one. A byte is F0 to F7
+//! (hexadecimal) if its upper five bits are those of F0. Flipping the bits of F0 makes such a byte
+//! 00.
 
 ghost use Rattle.std.specs.Prelude.{◌≡◌, ◌<◌, ◌≤◌, ◌+◌, ◌↔◌, ℕ, Bool, IsTrue, Any, length, slice_range};
 ghost use Rattle.std.specs.Int.{to_le_bytes, w64};
@@ -13,7 +15,7 @@ ghost use Rattle.cesu8_bytes.specs.Kernels.{AnyIn, MayTest, Finds, MayTestWords,
 use super::fallback;
 use std::simd::prelude::*;
 
-/// The bytes of a word.
+/// The number of bytes in a word.
 const WORD: usize = 8;
 
 /// Returns whether some byte is F0 to F7 (hexadecimal). In UTF-8 these are the lead bytes of
@@ -51,8 +53,8 @@ pub fn contains_null_or_utf8_4_byte_char_header(value: &[u8]) -> bool
     )
 }
 
-/// Returns whether a word passes the test: that of the first eight bytes, of each eight that
-/// follow, or of the last eight, which may overlap. Fewer than eight bytes are for the fallback.
+/// Returns whether some word passes `test`. The words are the first eight bytes, each following
+/// eight, and the last eight, which may overlap. `fallback` tests fewer than eight bytes.
 fn test_word_any<F, T>(value: &[u8], fallback: F, test: T) -> bool
 where
     F: Fn(&[u8]) -> bool,
@@ -79,7 +81,7 @@ where
     test(word_at(value, last))
 }
 
-/// Returns the eight bytes at an offset as a word, the first one lowest.
+/// Returns the eight bytes at an offset as a word, the first one in the lowest bits.
 fn word_at(value: &[u8], offset: usize) -> u64
     requires { offset + WORD ≤ length value.now }
     ensures { to_le_bytes w64 result ≡ slice_range value.now offset (offset + WORD) }
@@ -87,21 +89,21 @@ fn word_at(value: &[u8], offset: usize) -> u64
     u64::from_le_bytes(u8x8::from_slice(&value[offset..]).to_array())
 }
 
-/// Whether some byte of the word is F0 to F7 (hexadecimal).
+/// Returns whether some byte of the word is F0 to F7 (hexadecimal).
 fn contains_four(word: u64) -> bool
     ensures { IsTrue result ↔ Any IsFour (to_le_bytes w64 word) }
 {
     zero_marks((word & 0xF8F8_F8F8_F8F8_F8F8) ^ 0xF0F0_F0F0_F0F0_F0F0) != 0
 }
 
-/// Whether some byte of the word is 00, or F0 to F7 (hexadecimal).
+/// Returns whether some byte of the word is 00, or F0 to F7 (hexadecimal).
 fn contains_null_or_four(word: u64) -> bool
     ensures { IsTrue result ↔ Any IsNullFour (to_le_bytes w64 word) }
 {
     zero_marks(word) != 0 || contains_four(word)
 }
 
-/// Returns a word that is 0 exactly where no byte of this one is 00.
+/// Returns 0 if and only if no byte of the word is 00.
 fn zero_marks(word: u64) -> u64
     ensures { ¬ (result ≡ 0) ↔ Any (λ byte. byte ≡ 0) (to_le_bytes w64 word) }
 {
@@ -115,8 +117,8 @@ mod tests {
 
     const ONES: u64 = 0x0101_0101_0101_0101;
 
-    /// The words are those of the first eight bytes, of each eight that follow, and of the last.
-    /// Fewer bytes have none, and the fallback, which always finds something, answers for them.
+    /// The words are the first eight bytes, each following eight, and the last eight. Fewer than
+    /// eight bytes go to the fallback, which always returns true here.
     #[test]
     fn tests_each_word(rt: HostRuntime) {
         // Each byte is its own index.
@@ -124,7 +126,8 @@ mod tests {
             0, 1, 2, 3, 4, 5, 6, 7, 8, 9, 10, 11, 12, 13, 14, 15, 16, 17, 18, 19, 20, 21, 22, 23,
             24,
         ];
-        // The number of bytes, and the words that are tested, less that at 0, followed by zeros.
+        // The number of bytes, the number of words that are tested, and these words, less the word
+        // at index 0 and followed by zeros.
         let cases = [
             (7, 0, [0, 0, 0, 0]),
             (8, 2, [0, 0, 0, 0]),
@@ -158,7 +161,8 @@ mod tests {
         }
     }
 
-    /// The borrow goes on through bytes 01, and no byte 81 is marked, whose high bit is set anyway.
+    /// The borrow passes through bytes 01. A byte 81 is not marked, because its high bit was set
+    /// before.
     #[test]
     fn marks_bytes_above_a_zero(rt: HostRuntime) {
         let marks = zero_marks(u64::from_le_bytes([0, 1, 1, 1, 1, 1, 1, 1]));

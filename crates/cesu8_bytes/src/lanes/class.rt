@@ -1,4 +1,4 @@
-//! Classes of bytes, which vectors of each width mark.
+//! Classes of bytes, and how a vector of each width tests for them.
 
 ghost use Rattle.std.specs.Prelude.{◌≡◌, ◌==◌, ◌||◌, ◌&&◌, ◌≤◌, ◌↔◌, ℕ, Bool, false, nat_le, nat_lt, IsTrue, map};
 ghost use Rattle.std.specs.Simd.Lanes.{mask_l};
@@ -9,22 +9,24 @@ use std::marker::PhantomData;
 use std::simd::Mask;
 use std::simd::prelude::*;
 
-/// The most bytes that a vector has, and not more than the `u64` of `bits` has bits.
+/// The width of the widest vector, in bytes. It is at most 64, so that the bits of a mask fit a
+/// `u64`.
 pub const LANES: usize = 64;
 
-/// A class of bytes.
+/// A class of bytes, which contracts name as a predicate.
 pub trait Class {
     ghost class: { ℕ → Bool };
 }
 
-/// A class that is found by vectors of `N` bytes.
+/// A class that vectors of `N` bytes can test for.
 pub trait InVectors<const N: usize>: Class {
-    /// Marks the bytes of the class.
+    /// Returns a mask of the lanes in the class.
     fn marks(bytes: Simd<u8, N>) -> Mask<i8, N>
         ensures { result ≡ map (λ b. lane (Self.class b)) bytes.entry };
 }
 
-/// A class found at each width: up to 64 bytes go by two vectors of one up to 32, more by `LANES`.
+/// A class that vectors of all widths can test for. Up to 64 bytes are tested by two vectors of one
+/// width, longer input by vectors of `LANES`.
 pub trait InAllVectors: InVectors<LANES>
     + InVectors<32>
     + InVectors<16>
@@ -44,7 +46,7 @@ where
         + InVectors<1>,
 {}
 
-/// Returns whether some byte is in the class.
+/// Returns whether some lane is in the class.
 #[inline(always)]
 pub fn has<C: InVectors<N>, const N: usize>(bytes: Simd<u8, N>) -> bool
     requires { N ≤ LANES }
@@ -53,7 +55,7 @@ pub fn has<C: InVectors<N>, const N: usize>(bytes: Simd<u8, N>) -> bool
     C::marks(bytes).any()
 }
 
-/// Returns a bit for each byte of the class, the lowest for the first byte.
+/// Returns a bit for each lane, set if it is in the class. The lowest bit is the first lane.
 #[inline(always)]
 pub fn bits<C: InVectors<N>, const N: usize>(bytes: Simd<u8, N>) -> u64
     requires { N ≤ LANES }
@@ -62,7 +64,7 @@ pub fn bits<C: InVectors<N>, const N: usize>(bytes: Simd<u8, N>) -> u64
     C::marks(bytes).to_bitmask()
 }
 
-/// Returns all ones for each byte of the class, and zeros for the others, in a block of 32 bytes.
+/// Returns FF for each lane in the class, and 00 for the others.
 #[inline(always)]
 pub fn mask<C: InVectors<32>>(bytes: u8x32) -> u8x32
     ensures { result ≡ map (λ b. mask (C.class b)) bytes }
@@ -70,34 +72,34 @@ pub fn mask<C: InVectors<32>>(bytes: u8x32) -> u8x32
     C::marks(bytes).select(u8x32::splat(0xFF), u8x32::splat(0))
 }
 
-/// No byte: what CESU-8 writes as C0 80. `flavor` takes it where MUTF-8 has `Null`.
+/// The empty class: CESU-8 encodes no byte as C0 80. MUTF-8 has `Null` in its place.
 pub struct NoByte;
 
-/// One byte.
+/// The one byte `BYTE`.
 pub struct Equal<const BYTE: u8>;
 
-/// 00.
+/// The byte 00.
 pub type Null = Equal<0>;
 
-/// F0 to F7 (hexadecimal), by the upper five bits of F0. The kernels take it, for any bytes.
+/// F0 to F7 (hexadecimal), tested by the upper five bits. The kernels use it, for any bytes.
 pub struct FourByteLead;
 
-/// A byte and all above it.
+/// `BYTE` and all greater bytes.
 pub struct AtLeast<const BYTE: u8>;
 
-/// F0 (hexadecimal) or more: in UTF-8 just `FourByteLead`. `groups` tests for it first, by maxima.
+/// F0 (hexadecimal) or more: in UTF-8 the four-byte leads. `groups` tests for these by maxima.
 pub type AtLeastF0 = AtLeast<0xF0>;
 
-/// 80 (hexadecimal) or more: what is not ASCII.
+/// 80 (hexadecimal) or more: not ASCII.
 pub type NonAscii = AtLeast<0x80>;
 
-/// The bytes of one class or the other.
+/// The bytes that are in `A` or in `B`.
 pub struct Either<A, B>(PhantomData<(A, B)>);
 
-/// 80 to BF (hexadecimal): what continues a character.
+/// Continuation bytes: 80 to BF (hexadecimal).
 pub struct Continuation;
 
-/// 00 to 7F, or C0 to EF (hexadecimal): in UTF-8 the lead bytes of one UTF-16 code unit.
+/// In UTF-8, the lead bytes of one UTF-16 code unit: 00 to 7F, or C0 to EF (hexadecimal).
 pub struct OneUnit;
 
 impl Class for NoByte {

@@ -1,9 +1,11 @@
-//! Counts bytes of UTF-8, 64 at a time: one for each byte of a class, and two for each that leads
-//! four bytes. So it finds by how much an encoding is longer, and how many code units a text has.
+//! Sums the weights of bytes of UTF-8, 64 bytes at a time. A byte weighs one if it is in a class,
+//! and two if it leads four bytes. The sum is the growth of an encoding, or the number of code
+//! units.
 //!
-//! In 1,024 bytes each lane of a vector counts its own, at most 16 where 255 would fit, and the
-//! lanes are summed once. In the bytes after these, 64 at a time, the bits of a mask are counted.
-//! The last vector overlaps the one before it, and bits that were counted there are shifted out.
+//! In blocks of 1,024 bytes, each lane of a vector counts its own bytes. These are at most 16, so no
+//! lane overflows. Then the lanes are summed. In the rest, the bits of a mask are counted for each
+//! vector. The last vector overlaps the one before it, and the bits that were counted already are
+//! shifted out.
 
 ghost use Rattle.std.specs.Prelude.{◌≡◌, ℕ, ◌<◌, ◌≤◌, ◌+◌, ◌-◌, ◌*◌, length, drop, sum_by};
 ghost use Rattle.std.specs.Simd.Lanes.{sum_l};
@@ -15,7 +17,7 @@ use super::class::{FourByteLead, InAllVectors, InVectors, LANES, NoByte, Null, O
 use super::short::by_two_vectors;
 use std::simd::prelude::*;
 
-/// A class of bytes that count one, none a lead of four: two for each byte of a slice fit `usize`.
+/// A class without a four-byte lead. A byte weighs at most two, so the sum of a slice fits `usize`.
 pub trait CountsOne: InAllVectors {
     ghost at_most_two: { (b : ℕ) → weight_of Self.class b ≤ 2 };
 }
@@ -32,14 +34,13 @@ impl CountsOne for OneUnit {
     ghost at_most_two = { λ b. Prim.grind (arith, nat_tests) };
 }
 
-/// How many vectors are counted in lanes. More would save sums, but leave more bytes to masks.
+/// The vectors in a block. More of them would save sums, but leave more bytes to masks.
 const VECTORS_IN_LANES: usize = 16;
 
-/// How many bytes are counted in lanes.
+/// The bytes in a block.
 const BYTES_IN_LANES: usize = VECTORS_IN_LANES * LANES;
 
-/// Returns what the bytes weigh together. A short text is counted where that is needed, without a
-/// call.
+/// Returns the sum of the bytes' weights. Up to 64 bytes are counted inline.
 #[inline(always)]
 pub fn weight<C: CountsOne>(value: &[u8]) -> usize
     ensures { result ≡ sum_by (weight_of C.class) value.now }
@@ -50,6 +51,7 @@ pub fn weight<C: CountsOne>(value: &[u8]) -> usize
     }
 }
 
+/// Returns the sum of the weights of any bytes: whole blocks first, then the rest.
 #[inline(never)]
 fn long_weight<C: CountsOne>(value: &[u8]) -> usize
     ensures { result ≡ sum_by (weight_of C.class) value.now }
@@ -63,7 +65,7 @@ fn long_weight<C: CountsOne>(value: &[u8]) -> usize
     weight + rest_weight::<C>(rest)
 }
 
-/// Counts in a block of vectors, of which each lane counts its own bytes.
+/// Returns the sum of the weights of a block. Each lane counts its own bytes.
 #[inline(always)]
 fn block_weight<C: CountsOne>(block: &[u8]) -> usize
     requires { length block.now ≡ BYTES_IN_LANES }
@@ -80,7 +82,8 @@ fn block_weight<C: CountsOne>(block: &[u8]) -> usize
     lane_sum(ones) + 2 * lane_sum(fours)
 }
 
-/// Returns the sum of the lanes, by fours in wider lanes: 64 lanes of up to 16 overflow a byte.
+/// Returns the sum of the lanes. It adds them by fours in wider lanes, since 64 times 16 overflows
+/// a byte.
 #[inline(always)]
 fn lane_sum(lanes: u8x64) -> usize
     ensures { result ≡ sum_l lanes }
@@ -88,6 +91,7 @@ fn lane_sum(lanes: u8x64) -> usize
     lanes.dot4(u8x64::splat(1)).strict_reduce_sum() as usize
 }
 
+/// Returns the sum of the weights, vector by vector.
 #[inline(always)]
 fn rest_weight<C: CountsOne>(value: &[u8]) -> usize
     ensures { result ≡ sum_by (weight_of C.class) value.now }
@@ -107,7 +111,7 @@ fn rest_weight<C: CountsOne>(value: &[u8]) -> usize
     weight + end_weight::<C, LANES>(value, left)
 }
 
-/// Counts in at most 64 bytes.
+/// Returns the sum of the weights of at most 64 bytes.
 #[inline(always)]
 fn short_weight<C: CountsOne>(value: &[u8]) -> usize
     requires { length value.now ≤ LANES }
@@ -116,7 +120,8 @@ fn short_weight<C: CountsOne>(value: &[u8]) -> usize
     by_two_vectors!(value, pair_weight[C](value), 0)
 }
 
-/// Counts in the first `N` bytes, and the others in the last `N`.
+/// Returns the sum of the weights of `N` to `2 * N` bytes: of the first `N`, and of the rest in the
+/// last `N`.
 #[inline(always)]
 fn pair_weight<C: CountsOne + InVectors<N>, const N: usize>(value: &[u8]) -> usize
     requires lanes { (0 < N) × (N ≤ 32) }
@@ -127,7 +132,8 @@ fn pair_weight<C: CountsOne + InVectors<N>, const N: usize>(value: &[u8]) -> usi
     first + end_weight::<C, N>(value, value.len() - N)
 }
 
-/// Counts in the last `len` bytes, by a vector of the last `N`. Fewer than 64 bits are shifted out.
+/// Returns the sum of the weights of the last `len` bytes, which the last vector contains. Fewer
+/// than 64 bits are shifted out.
 #[inline(always)]
 fn end_weight<C: CountsOne + InVectors<N>, const N: usize>(value: &[u8], len: usize) -> usize
     requires lanes { N ≤ LANES }
@@ -138,7 +144,7 @@ fn end_weight<C: CountsOne + InVectors<N>, const N: usize>(value: &[u8], len: us
     lanes_weight::<C, N>(lanes, N - len)
 }
 
-/// Counts in the lanes after the first `skipped`.
+/// Returns the sum of the weights of the lanes after the first `skipped`.
 #[inline(always)]
 fn lanes_weight<C: CountsOne + InVectors<N>, const N: usize>(
     lanes: Simd<u8, N>,

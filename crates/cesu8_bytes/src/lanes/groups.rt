@@ -1,8 +1,8 @@
 //! Tests of four vectors at once, which cost less than a test of each.
 //!
-//! The greatest and the least byte of each lane show most of four vectors: if the greatest are
-//! below F0 (hexadecimal), none leads four bytes, and if the least are above 00, none is null. Else
-//! a byte may lead four or not, since F8 to FF are above F0 and lead none. UTF-8 has none of these.
+//! If the greatest byte of each lane is below F0 (hexadecimal), no byte of the four vectors leads
+//! four bytes. If the least byte of each lane is above 00, none is null. The first test has false
+//! positives: bytes F8 to FF, which are above F0 and lead nothing. UTF-8 has no such bytes.
 
 ghost use Rattle.std.specs.Prelude.{◌==◌, ◌||◌, ◌≤◌, [], ◌∷◌, false, IsTrue, Any, nat_le};
 ghost use Rattle.cesu8_text.specs.Class.{is_four};
@@ -13,10 +13,11 @@ use super::class::{
 };
 use std::simd::prelude::*;
 
-/// A class that four vectors at once may be tested for. If they may have one, `search` tests each
-/// again and `runs` ends its run, so a wrong answer costs time alone. Both go by four of 64 bytes.
+/// A class for which four vectors can be tested at once. If the test returns true, `search` tests
+/// each vector again, and `runs` ends its run. So a false positive costs only time.
 pub trait InGroups<const N: usize>: InVectors<N> {
-    /// Returns whether some byte of four vectors may be in the class, and true if one is.
+    /// Returns true if some byte of the four vectors is in the class. It may also return true
+    /// otherwise.
     fn may_have(a: Simd<u8, N>, b: Simd<u8, N>, c: Simd<u8, N>, d: Simd<u8, N>) -> bool
         requires { N ≤ LANES }
         ensures { Any (AnyIn Self.class) (a.entry ∷ b.entry ∷ c.entry ∷ d.entry ∷ [])
@@ -47,7 +48,7 @@ impl<const BYTE: u8, const N: usize> InGroups<N> for AtLeast<BYTE> {
 }
 
 impl<const BYTE: u8, const N: usize> InGroups<N> for Equal<BYTE> {
-    /// Of 00 alone the least bytes tell something.
+    /// Only for the byte 00 does the minimum decide. For other bytes this always returns true.
     #[inline(always)]
     fn may_have(a: Simd<u8, N>, b: Simd<u8, N>, c: Simd<u8, N>, d: Simd<u8, N>) -> bool
         requires { N ≤ LANES }

@@ -1,7 +1,7 @@
-//! A few bytes as a block, with zeros behind them.
+//! Short slices as a block, padded with zeros.
 //!
-//! A block that is copied to a buffer and read from there at once waits for its bytes to be stored.
-//! So shuffles make it in registers.
+//! The slice is combined in registers by shuffles. Copying it to a buffer and loading the block
+//! from there would wait for store-to-load forwarding.
 
 ghost use Rattle.std.specs.Prelude.{◌≡◌, ◌<◌, ◌≤◌, ◌-◌, ◌++◌, length, replicate};
 ghost use Rattle.cesu8_bytes.specs.Padded.{ends_of};
@@ -10,25 +10,26 @@ use super::short::end_vector;
 use crate::BLOCK;
 use std::simd::prelude::*;
 
-/// Half a block: 16 bytes, the lanes that a `swizzle_dyn_within` picks from. The tables fit it.
+/// Half a block: the 16 lanes that `swizzle_dyn_within` selects from. The tables have this size.
 const HALF: usize = BLOCK / 2;
 
-/// The index of an empty lane, which gives 0.
+/// The index that selects no lane and gives 0.
 const E: u8 = 128;
 
-/// The indices of a half, then as many that give 0. The 16 from `i` on move lanes `i` places down.
+/// The indices of half a block, followed by as many that give 0. The 16 indices from `i` on shift
+/// the lanes down by `i`.
 const INDICES: [u8; 2 * HALF] = [
     0, 1, 2, 3, 4, 5, 6, 7, 8, 9, 10, 11, 12, 13, 14, 15, E, E, E, E, E, E, E, E, E, E, E, E, E, E,
     E, E,
 ];
 
-/// The indices of two halves, one behind the other.
+/// The indices that concatenate two halves.
 const BOTH_HALVES: [usize; BLOCK] = [
     0, 1, 2, 3, 4, 5, 6, 7, 8, 9, 10, 11, 12, 13, 14, 15, 16, 17, 18, 19, 20, 21, 22, 23, 24, 25,
     26, 27, 28, 29, 30, 31,
 ];
 
-/// By their number, which lanes of `ends` give less than half a block of bytes, in their order.
+/// Row `n` selects from `ends` the lanes that are the `n` bytes of a slice, in order.
 const IN_ENDS: [[u8; HALF]; HALF] = [
     [E, E, E, E, E, E, E, E, E, E, E, E, E, E, E, E],
     [0, E, E, E, E, E, E, E, E, E, E, E, E, E, E, E],
@@ -48,7 +49,7 @@ const IN_ENDS: [[u8; HALF]; HALF] = [
     [0, 1, 2, 3, 4, 5, 6, 7, 9, 10, 11, 12, 13, 14, 15, E],
 ];
 
-/// Returns that table. Indexed as a constant, it would be copied to the stack.
+/// Returns a reference to `IN_ENDS`. Indexing the constant would copy it to the stack.
 #[inline(always)]
 fn in_ends() -> &'static [[u8; HALF]; HALF]
     ensures { result.now ≡ IN_ENDS }
@@ -56,7 +57,7 @@ fn in_ends() -> &'static [[u8; HALF]; HALF]
     &IN_ENDS
 }
 
-/// Returns less than half a block, with zeros behind them.
+/// Returns fewer than 16 bytes, padded with zeros.
 #[inline(always)]
 fn padded_few(bytes: &[u8]) -> u8x16
     requires { length bytes.now < HALF }
@@ -65,8 +66,8 @@ fn padded_few(bytes: &[u8]) -> u8x16
     ends(bytes).swizzle_dyn_within::<16>(u8x16::from_array(in_ends()[bytes.len()]))
 }
 
-/// Returns the first of less than half a block, and behind them the last ones, which together
-/// are all: eight of each, or else four, two or one.
+/// Returns the first `n` and the last `n` of fewer than 16 bytes, for the greatest `n` of 8, 4, 2
+/// and 1 that they have. Together these are all the bytes.
 #[inline(always)]
 fn ends(bytes: &[u8]) -> u8x16
     requires { length bytes.now < HALF }
@@ -96,7 +97,7 @@ fn ends(bytes: &[u8]) -> u8x16
     u8x16::splat(bytes[0])
 }
 
-/// Returns at most a block (32 bytes) with zeros behind: half of the 64 that `cesu8_decode` loads.
+/// Returns at most a block (32 bytes), padded with zeros: half of the 64 that `cesu8_decode` loads.
 #[inline(always)]
 pub fn padded_half(bytes: &[u8]) -> u8x32
     requires { length bytes.now ≤ BLOCK }
@@ -105,8 +106,8 @@ pub fn padded_half(bytes: &[u8]) -> u8x32
     if bytes.len() < HALF {
         return padded_few(bytes).shuffle::<BLOCK>(u8x16::splat(0), BOTH_HALVES);
     }
-    // A load lies in the slice, so it begins before what is behind the first half, and the shuffle
-    // moves that to the front.
+    // A load must not pass the end of the slice. So the second half is loaded up to the end, and
+    // the shuffle removes what it shares with the first half.
     let indices = u8x16::from_slice(&INDICES[BLOCK - bytes.len()..]);
     let last = u8x16::from_slice(&bytes[bytes.len() - HALF..]);
     let second = last.swizzle_dyn_within::<16>(indices);

@@ -1,4 +1,4 @@
-//! Runs of bytes without one of a class, found by vectors.
+//! The length of the prefix without a byte of a class, by vectors.
 
 ghost use Rattle.std.specs.Prelude.{◌≡◌, ◌==◌, if◌then◌else◌, ℕ, ◌*◌, ◌<◌, ◌≤◌, not, false, length, slice_index};
 ghost use Rattle.std.specs.Int.Count.{count_trailing_zeros};
@@ -8,7 +8,7 @@ use super::class::{InVectors, LANES, bits, has};
 use super::groups::InGroups;
 use std::simd::prelude::*;
 
-/// Returns how many lanes precede the first one of the class.
+/// Returns how many lanes precede the first one in the class.
 #[inline(always)]
 pub fn lanes_before<C: InVectors<N>, const N: usize>(lanes: Simd<u8, N>) -> usize
     requires { N ≤ LANES }
@@ -17,7 +17,7 @@ pub fn lanes_before<C: InVectors<N>, const N: usize>(lanes: Simd<u8, N>) -> usiz
     first_bit::<N>(bits::<C, N>(lanes))
 }
 
-/// Returns the first of `N` bits that is set, or `N` if none is.
+/// Returns the index of the first of `N` bits that is set, or `N` if none is.
 #[inline(always)]
 pub(crate) fn first_bit<const N: usize>(marks: u64) -> usize
     requires { N ≤ LANES }
@@ -30,11 +30,12 @@ pub(crate) fn first_bit<const N: usize>(marks: u64) -> usize
     }
 }
 
-/// How many bytes are searched at once where none is expected to be in the class.
+/// How many bytes are tested at once if a byte of the class is unlikely.
 const GROUP: usize = 4 * LANES;
 
-/// Returns the length of whole groups of 256 bytes at the front without one of the class; one that
-/// may have one ends them. Mostly the first 64 have one, so these are tested alone before.
+/// Returns the length of a prefix without a byte of the class, in whole groups of 256 bytes. It may
+/// stop at a group that has none. If the first 64 bytes have one, as they mostly do, nothing else
+/// is tested.
 #[inline(always)]
 pub fn run_of_groups<C: InGroups<LANES>>(bytes: &[u8]) -> usize
     ensures within { (result ≤ length bytes.now) × (0 < result → GROUP ≤ result) }
@@ -50,7 +51,7 @@ pub fn run_of_groups<C: InGroups<LANES>>(bytes: &[u8]) -> usize
     run
 }
 
-/// Returns whether one of the first 256 bytes may be in the class, and true if one is.
+/// Returns true if one of the first 256 bytes is in the class. It may also return true otherwise.
 #[inline(always)]
 fn group_may_have<C: InGroups<LANES>>(bytes: &[u8]) -> bool
     requires { GROUP ≤ length bytes.now }

@@ -1,9 +1,9 @@
-//! The search of bytes for one of a class.
+//! Searches for a byte of a class.
 //!
-//! Two vectors of one width cover at most 64 bytes. More are tested by four vectors of 64 bytes at
-//! once, and a last one that overlaps those before it, so no byte is left.
+//! Two vectors of equal width cover at most 64 bytes. Longer input is tested by four vectors of 64
+//! bytes at once, and its end by a vector that overlaps those before it, so no byte is left over.
 //!
-//! Everything is inlined: a call would pass vectors through memory, and most values are short.
+//! Everything is inlined: a call would pass vectors through memory, and most input is short.
 
 ghost use Rattle.std.specs.Prelude.{◌<◌, ◌≤◌, ◌↔◌, IsTrue, Any, length};
 ghost use Rattle.cesu8_bytes.specs.Kernels.{AnyIn};
@@ -24,7 +24,8 @@ pub fn any_in_bytes<C: InAllVectors + InGroups<LANES>>(bytes: &[u8]) -> bool
     by_two_vectors!(bytes, any_in_ends[C](bytes), false)
 }
 
-/// Does so, by two vectors up to 128 bytes. It is longer: `is_short_unchanged_ascii` alone has it.
+/// Like `any_in_bytes`, but tests 65 to 128 bytes with two 64-byte vectors. The code is larger, so
+/// only `is_short_unchanged_ascii` uses it.
 #[inline(always)]
 pub fn any_in_first_look<C: InAllVectors + InGroups<LANES>>(bytes: &[u8]) -> bool
     ensures { IsTrue result ↔ AnyIn C.class bytes.now }
@@ -38,7 +39,7 @@ pub fn any_in_first_look<C: InAllVectors + InGroups<LANES>>(bytes: &[u8]) -> boo
     any_in_long::<C>(bytes)
 }
 
-/// Returns whether some byte of a whole vector is in the class, or of the last 64 bytes.
+/// Returns whether some byte of more than 64 is in the class: of a whole vector, or of the last 64.
 #[inline(always)]
 pub fn any_in_long<C: InGroups<LANES>>(bytes: &[u8]) -> bool
     requires { LANES < length bytes.now }
@@ -49,7 +50,7 @@ pub fn any_in_long<C: InGroups<LANES>>(bytes: &[u8]) -> bool
     any_in_chunks::<C, LANES>(chunks) || has::<C, LANES>(end)
 }
 
-/// Returns whether some byte of the chunks is in the class, by four of them at once.
+/// Returns whether some byte of the chunks is in the class, testing four chunks at once.
 #[inline(always)]
 pub fn any_in_chunks<C: InGroups<N>, const N: usize>(chunks: &[[u8; N]]) -> bool
     requires { N ≤ LANES }
@@ -59,6 +60,8 @@ pub fn any_in_chunks<C: InGroups<N>, const N: usize>(chunks: &[[u8; N]]) -> bool
     any_in_groups::<C, N>(groups) || any_in_each::<C, N>(rest)
 }
 
+/// Returns whether some byte of the group is in the class. In most groups one test of all four
+/// chunks finds none, and only the others are tested chunk by chunk.
 #[inline(always)]
 fn any_in_groups<C: InGroups<N>, const N: usize>(groups: &[[[u8; N]; 4]]) -> bool
     requires { N ≤ LANES }
@@ -72,7 +75,8 @@ fn any_in_groups<C: InGroups<N>, const N: usize>(groups: &[[[u8; N]; 4]]) -> boo
     false
 }
 
-/// Most groups have no byte that may be in the class; the others are tested again.
+/// Returns whether some byte of the group is in the class. Most groups are rejected by one test of
+/// all four chunks, and only the others are tested chunk by chunk.
 #[inline(always)]
 fn any_in_group<C: InGroups<N>, const N: usize>(group: &[[u8; N]; 4]) -> bool
     requires { N ≤ LANES }
@@ -84,7 +88,7 @@ fn any_in_group<C: InGroups<N>, const N: usize>(group: &[[u8; N]; 4]) -> bool
     C::may_have(a, b, c, d) && any_in_each::<C, N>(group)
 }
 
-/// Returns whether some byte of the chunks is in the class, by a test of each chunk.
+/// Returns whether some byte of the chunks is in the class, testing each chunk.
 #[inline(always)]
 fn any_in_each<C: InVectors<N>, const N: usize>(chunks: &[[u8; N]]) -> bool
     requires { N ≤ LANES }

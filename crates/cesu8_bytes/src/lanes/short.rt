@@ -1,7 +1,8 @@
-//! Short values, for which a loop for each vector width would cost more than the tests.
+//! Short slices, for which a loop at each vector width would cost more than the tests do.
 //!
-//! Two vectors of one width, one at the front and one at the end, cover a value between that width
-//! and twice that. They overlap where needed, so no byte is left out.
+//! Two vectors of one width, one at the start and one at the end, cover a slice whose length is
+//! between that width and twice that width. In a slice shorter than twice the width they overlap,
+//! so no byte is left out.
 
 ghost use Rattle.std.specs.Prelude.{◌≡◌, ◌≤◌, ◌+◌, ◌*◌, ◌-◌, ◌↔◌, ◌++◌, IsTrue, length, drop};
 ghost use Rattle.cesu8_bytes.specs.Kernels.{AnyIn};
@@ -10,8 +11,9 @@ use super::class::{InVectors, LANES, has};
 use crate::writing::put::put_lanes;
 use std::simd::prelude::*;
 
-/// From 1,024 bytes on, `copy_short` and `append` copy one slice, in larger steps. Where both may
-/// overlap, for all that the compiler knows, up to 127 bytes are then copied one by one.
+/// From 1,024 bytes on, `copy_short` and `append` copy the slice as a whole, in larger steps. If
+/// the compiler cannot rule out that source and destination alias, the last bytes, up to 127, are
+/// copied one by one.
 pub(crate) const LONG: usize = 16 * LANES;
 
 /// Returns whether there are at most 64 bytes, which two vectors of one width up to 32 cover.
@@ -22,8 +24,8 @@ pub fn are_short(bytes: &[u8]) -> bool
     bytes.len() <= LANES
 }
 
-/// Calls a function for at most 64 bytes, at the greatest width up to 32 that they fill, or
-/// returns what is right of none: `by_two_vectors!(value, function[Class](value), of_none)`.
+/// Calls a function for at most 64 bytes, with the greatest width up to 32 that they fill. For no
+/// bytes the result is `of_none`: `by_two_vectors!(value, function[Class](value), of_none)`.
 macro_rules! by_two_vectors {
     ($value:expr, $function:ident[$($class:ty),*]($($argument:expr),*), $of_none:expr) => {
         if $value.len() >= 32 {
@@ -46,8 +48,8 @@ macro_rules! by_two_vectors {
 
 pub(crate) use by_two_vectors;
 
-/// Returns whether some byte is in the class, by a vector at the front and one at the end, which
-/// together cover all. It joins both answers by `|`, so that no branch lies between the tests.
+/// Returns whether some byte is in the class, by one vector at the start and one at the end. It
+/// joins the two results by `|`, so that there is no branch between the tests.
 #[inline(always)]
 pub fn any_in_ends<C: InVectors<N>, const N: usize>(bytes: &[u8]) -> bool
     requires { (N ≤ LANES) × (N ≤ length bytes.now) × (length bytes.now ≤ 2 * N) }
@@ -58,7 +60,7 @@ pub fn any_in_ends<C: InVectors<N>, const N: usize>(bytes: &[u8]) -> bool
     has::<C, N>(front) | has::<C, N>(end)
 }
 
-/// Returns the vector that ends where the bytes do.
+/// Returns the last `N` bytes.
 #[inline(always)]
 pub(crate) fn end_vector<const N: usize>(bytes: &[u8]) -> Simd<u8, N>
     requires { (N ≤ LANES) × (N ≤ length bytes.now) }
@@ -67,8 +69,8 @@ pub(crate) fn end_vector<const N: usize>(bytes: &[u8]) -> Simd<u8, N>
     Simd::from_slice(&bytes[bytes.len() - N..])
 }
 
-/// Copies bytes to the front of a buffer. It is correct for every length, and for short ones it
-/// takes less time than a call of `memmove`.
+/// Copies bytes to the start of a buffer. It is correct for every length, and faster than a call of
+/// `memmove` for short slices.
 #[inline(always)]
 pub fn copy_short(bytes: &[u8], buf: &mut [u8])
     requires { length bytes.now ≤ length buf.old }
@@ -82,7 +84,7 @@ pub fn copy_short(bytes: &[u8], buf: &mut [u8])
         by_two_vectors!(bytes, copy_ends[](bytes, buf), ());
         return;
     }
-    // Others go by vectors in turn, of which the last overlaps where needed.
+    // Longer slices are copied vector by vector. The last one may overlap the one before it.
     let last = bytes.len() - LANES;
     let mut at = 0;
     while at < last {
@@ -93,7 +95,7 @@ pub fn copy_short(bytes: &[u8], buf: &mut [u8])
     put_lanes(lanes, buf, last);
 }
 
-/// Copies by a vector at the front and one at the end, which together cover all.
+/// Copies bytes by one vector at the start and one at the end, which cover them all.
 #[inline(always)]
 fn copy_ends<const N: usize>(bytes: &[u8], buf: &mut [u8])
     requires lanes { (N ≤ LANES) × (N ≤ length bytes.now) × (length bytes.now ≤ 2 * N) }

@@ -1,5 +1,5 @@
-//! Copies to the end of a buffer with enough capacity, or to a caller's, which may be too short,
-//! and copies that are owned, with one request each.
+//! Copies bytes to the end of a buffer with enough capacity, to a caller's buffer, which may be too
+//! short, or to a new buffer, which takes one allocation.
 
 ghost use Rattle.std.specs.Prelude.{◌≡◌, ℕ, List, ◌+◌, ◌*◌, ◌≤◌, ◌++◌, [], length, replicate, take, IfOk, IsOk, vec_len, vec_capacity};
 ghost use Rattle.std.specs.String.{string_bytes, string_capacity};
@@ -12,20 +12,20 @@ use std::alloc::{AllocError, Global};
 use std::mem;
 use std::simd::prelude::*;
 
-/// The lanes of the vectors that append 17 to 64 bytes. Four of them have to reach `LANES`.
+/// The vector that appends 17 to 64 bytes: four of them cover `LANES`.
 const WIDE: usize = 16;
 
-/// The lanes of those that append 4 to 16 bytes. Four have to reach `WIDE`; fewer go one by one.
+/// The vector that appends 4 to 16 bytes: four of them cover `WIDE`. Fewer bytes are copied singly.
 const NARROW: usize = 4;
 
-/// Appends bytes to a buffer with enough capacity. Short values have two widths of vectors alone,
-/// since a processor mostly guesses wrong which of many a length has.
+/// Appends bytes to a buffer with enough capacity. Short slices use only two widths of vectors,
+/// since a branch for each width would mostly be mispredicted.
 #[inline(always)]
 pub fn append(bytes: &[u8], out: &mut Vec<u8>)
     requires { vec_len out.old + length bytes.now ≤ vec_capacity out.old }
     ensures { Appends bytes.now out.old out.new }
 {
-    // The length of a local vector stays in a register; behind a reference, each byte that is
+    // The length of a local `Vec` stays in a register. Through a reference, each byte that is
     // written would store it.
     let mut taken = mem::replace(out, Vec::new(*out.allocator()));
     match bytes.len() {
@@ -36,8 +36,9 @@ pub fn append(bytes: &[u8], out: &mut Vec<u8>)
     *out = taken;
 }
 
-/// Appends the first `len` of 64 bytes or more to a buffer with enough capacity for all of them. Up
-/// to 64 are appended as one vector, which is then cut, since how many they are is guessed wrong.
+/// Appends the first `len` bytes of at least 64, to a buffer with enough capacity for all of them.
+/// Up to 64 are copied as one vector that is then truncated: a copy of variable length would
+/// mispredict.
 #[inline(always)]
 pub fn append_front(bytes: &[u8], len: usize, out: &mut Vec<u8>)
     requires lanes { LANES ≤ length bytes.now }
@@ -49,7 +50,7 @@ pub fn append_front(bytes: &[u8], len: usize, out: &mut Vec<u8>)
         append(&bytes[..len], out);
         return;
     }
-    // As above.
+    // A local `Vec` keeps its length in a register (see `append`).
     let mut taken = mem::replace(out, Vec::new(*out.allocator()));
     let start = taken.len();
     append_at::<LANES>(bytes, 0, start, &mut taken);
@@ -57,7 +58,7 @@ pub fn append_front(bytes: &[u8], len: usize, out: &mut Vec<u8>)
     *out = taken;
 }
 
-/// Appends at most 64 bytes: for `append`, and for callers that know that there are no more.
+/// Appends at most 64 bytes, for `append` and for callers that know that there are no more.
 #[inline(always)]
 pub fn append_few(bytes: &[u8], out: &mut Vec<u8>)
     requires few { length bytes.now ≤ LANES }
@@ -71,7 +72,7 @@ pub fn append_few(bytes: &[u8], out: &mut Vec<u8>)
     }
 }
 
-/// Appends 64 bytes or more by vectors in turn, the last of which overlaps where needed.
+/// Appends at least 64 bytes, vector by vector. The last vector may overlap the one before it.
 #[inline(always)]
 fn append_many(bytes: &[u8], out: &mut Vec<u8>)
     requires lanes { LANES ≤ length bytes.now }
@@ -88,7 +89,7 @@ fn append_many(bytes: &[u8], out: &mut Vec<u8>)
     append_at::<LANES>(bytes, last, start, out);
 }
 
-/// Appends `N` to `4 * N` bytes, by four vectors that overlap where needed.
+/// Appends `N` to `4 * N` bytes by four vectors, which may overlap.
 #[inline(always)]
 fn append_four<const N: usize>(bytes: &[u8], out: &mut Vec<u8>)
     requires lanes { (N ≤ LANES) × (N ≤ length bytes.now) × (length bytes.now ≤ 4 * N) }
@@ -104,8 +105,8 @@ fn append_four<const N: usize>(bytes: &[u8], out: &mut Vec<u8>)
     append_at::<N>(bytes, last, start, out);
 }
 
-/// Appends the `N` bytes at an offset, in place of what was appended behind it. Those before it
-/// were appended from the index `start` on.
+/// Replaces what was appended from offset `at` on by the `N` bytes at that offset. The bytes before
+/// it were appended from index `start` on.
 #[inline(always)]
 fn append_at<const N: usize>(bytes: &[u8], at: usize, start: usize, out: &mut Vec<u8>)
     requires lanes { (N ≤ LANES) × (at + N ≤ length bytes.now) }
@@ -122,9 +123,9 @@ fn append_at<const N: usize>(bytes: &[u8], at: usize, start: usize, out: &mut Ve
     append_each(&lanes.to_array(), out);
 }
 
-/// Appends bytes one by one. That is compiled to a call of `memcpy` where the buffer is known to be
-/// apart from the bytes, as a new one is, for an array to a vector that is stored, and else to
-/// larger steps with the last bytes one by one.
+/// Appends bytes one by one. The compiler turns this into a vector store for an array, and into a
+/// `memcpy` if it knows that source and buffer do not alias, as for a new buffer. Otherwise it
+/// copies in larger steps, and the last bytes one by one.
 #[inline(always)]
 fn append_each(bytes: &[u8], out: &mut Vec<u8>)
     requires { vec_len out.old + length bytes.now ≤ vec_capacity out.old }
@@ -135,13 +136,13 @@ fn append_each(bytes: &[u8], out: &mut Vec<u8>)
     }
 }
 
-/// Appends so many zeros to a buffer with enough capacity, in whose place a slice of it is written.
+/// Appends zeros to a buffer with enough capacity. The caller then overwrites them as a slice.
 #[inline(always)]
 pub fn append_zeros(count: usize, out: &mut Vec<u8>)
     requires { vec_len out.old + count ≤ vec_capacity out.old }
     ensures { Appends (replicate count 0) out.old out.new }
 {
-    // As above.
+    // A local `Vec` keeps its length in a register (see `append`).
     let mut taken = mem::replace(out, Vec::new(*out.allocator()));
     for _ in 0..count {
         taken.push_reserved(0);
@@ -149,7 +150,7 @@ pub fn append_zeros(count: usize, out: &mut Vec<u8>)
     *out = taken;
 }
 
-/// Returns a copy of some bytes, after one request for their length.
+/// Returns a copy of some bytes. It allocates exactly their length, once.
 pub fn copy(alloc: Global, bytes: &[u8]) -> Result<Vec<u8>, AllocError>
     ensures bytes { IfOk result (λ copied. copied.items ≡ bytes.now) }
     ensures capacity { IfOk result (λ copied. vec_capacity copied ≡ length bytes.now) }
@@ -160,7 +161,7 @@ pub fn copy(alloc: Global, bytes: &[u8]) -> Result<Vec<u8>, AllocError>
     Ok(copied)
 }
 
-/// Returns a copy of a text, after one request for its length.
+/// Returns a copy of a string. It allocates exactly its length, once.
 pub fn copy_text(alloc: Global, text: &str) -> Result<String, AllocError>
     ensures text { IfOk result (λ copied. string_bytes copied ≡ text.now) }
     ensures capacity { IfOk result (λ copied. string_capacity copied ≡ length text.now) }
@@ -170,13 +171,13 @@ pub fn copy_text(alloc: Global, text: &str) -> Result<String, AllocError>
     Ok(known_string(copied))
 }
 
-/// The buffer is shorter than what is to be written: so many bytes are needed.
+/// The error of a write that does not fit: the buffer is shorter than the `needed` bytes.
 #[derive(Clone, Copy)]
 pub struct NoRoom {
     pub needed: usize,
 }
 
-/// Copies bytes to the front of a caller's buffer, if they fit.
+/// Copies bytes to the start of a caller's buffer, if they fit, and returns their number.
 #[inline(always)]
 pub fn copy_to_slice(bytes: &[u8], buf: &mut [u8]) -> Result<usize, NoRoom>
     ensures { PutsAnswer bytes.now result buf.old buf.new }

@@ -1,4 +1,4 @@
-//! Packs the lanes of a vector of which some go, by a shuffle for each eight.
+//! Packs the lanes of a vector, without those that are dropped, by a shuffle for each eight lanes.
 
 ghost use Rattle.std.specs.Prelude.{◌≡◌, List, Bool, ◌+◌, ◌<◌, ◌≤◌, ◌++◌, false, length, take, replicate};
 ghost use Rattle.std.specs.Simd.Lanes.{chunk, mask_l};
@@ -11,14 +11,14 @@ use crate::BLOCK;
 use rows_of_eight::rows_of_eight;
 use std::simd::prelude::*;
 
-/// How many bytes a packed row stores, of which the last may not count: buffers have room for them.
+/// The bytes that a packed row stores. The last of them may be garbage: buffers have room for them.
 pub const STORED: usize = 16;
 
-/// How many bytes are half a block.
+/// Half the bytes of a block.
 pub const HALF: usize = BLOCK / 2;
 
-/// Stores those of 32 bytes that don't go, and returns their end. Bit `i` of the set tells whether
-/// byte `i` goes. Its bits above these tell nothing.
+/// Stores 32 bytes without those that are dropped, and returns where they end. Bit `i` of `gone` is
+/// set if byte `i` is dropped. The bits above these are ignored.
 #[inline(always)]
 pub fn store_kept(bytes: u8x32, gone: usize, out: &mut [u8], at: usize) -> usize
     requires { at + BLOCK + STORED ≤ length out.old }
@@ -34,7 +34,7 @@ pub fn store_kept(bytes: u8x32, gone: usize, out: &mut [u8], at: usize) -> usize
     store_eight(second_of(third), gone >> 24 & 0xFF, out, at)
 }
 
-/// Stores those of eight bytes that don't go, by the set of those that do, and returns their end.
+/// Stores eight bytes without those that are dropped, and returns where they end.
 #[inline(always)]
 fn store_eight(lanes: u8x16, gone: usize, out: &mut [u8], at: usize) -> usize
     requires small { gone < 0x100 }
@@ -48,7 +48,7 @@ fn store_eight(lanes: u8x16, gone: usize, out: &mut [u8], at: usize) -> usize
     at + row[15] as usize
 }
 
-/// Returns the upper half of some lanes, and again, which only fills the vector.
+/// Returns the upper half of the lanes, twice: the second copy only fills the vector.
 #[inline(always)]
 pub fn second_of(lanes: u8x16) -> u8x16
     ensures { result ≡ chunk 8 8 lanes ++ chunk 8 8 lanes }
@@ -56,7 +56,7 @@ pub fn second_of(lanes: u8x16) -> u8x16
     lanes.swizzle::<16>([8, 9, 10, 11, 12, 13, 14, 15, 8, 9, 10, 11, 12, 13, 14, 15])
 }
 
-/// Returns the lanes at the indices in the lower halves of a row's numbers.
+/// Returns the lanes that the lower halves of the row's numbers select.
 #[inline(always)]
 pub fn picked(lanes: u8x16, row: u8x16) -> u8x16
     ensures { result ≡ lanes_at lanes row }

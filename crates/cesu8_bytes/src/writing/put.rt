@@ -1,4 +1,4 @@
-//! Writers to an offset of a slice that is long enough.
+//! Writes bytes and vectors to an offset of a slice that is long enough.
 
 ghost use Rattle.std.specs.Prelude.{◌+◌, ◌≤◌, length};
 ghost use Rattle.cesu8_bytes.specs.Puts.{PutsAt};
@@ -6,7 +6,7 @@ ghost use Rattle.cesu8_bytes.specs.Puts.{PutsAt};
 use crate::lanes::class::LANES;
 use std::simd::prelude::*;
 
-/// Copies bytes to an offset of a slice, and returns where they end.
+/// Copies bytes to an offset of a slice, and returns the offset after them.
 #[inline(always)]
 pub fn put(bytes: &[u8], out: &mut [u8], at: usize) -> usize
     requires { at + length bytes.now ≤ length out.old }
@@ -17,7 +17,7 @@ pub fn put(bytes: &[u8], out: &mut [u8], at: usize) -> usize
     end
 }
 
-/// Stores a vector at an offset of a slice, and returns where it ends.
+/// Stores a vector at an offset of a slice, and returns the offset after it.
 #[inline(always)]
 pub fn put_lanes<const N: usize>(lanes: Simd<u8, N>, out: &mut [u8], at: usize) -> usize
     requires lanes { N ≤ LANES }

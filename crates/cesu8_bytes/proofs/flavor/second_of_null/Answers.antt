@@ -6,7 +6,7 @@ use Rattle.cesu8_bytes.specs.Pairs.{null_at}
 use Rattle.cesu8_bytes.proofs.lists.Lanes.{chosen_lanes}
 use Rattle.cesu8_bytes.proofs.flavor.second_of_null.Goals as goal
 
--- In CESU-8 no byte is marked.
+-- In CESU-8, all lanes are 7F.
 none_marked : (f : Flavor) → (f ≡ Mutf8 → ⊥) → (bytes : List ℕ) → length bytes ≡ 32 →
     replicate {A = ℕ} 32 0x7F ≡ map (λ b. cond (null_at f 0xC0 b) 0xFF 0x7F) bytes
 none_marked Cesu8 other bytes long = splat_is_map bytes 32 0x7F long

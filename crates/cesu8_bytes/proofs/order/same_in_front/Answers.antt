@@ -4,7 +4,7 @@ use Rattle.cesu8_bytes.proofs.lists.Prefixes.{differ, same_before, differs_there
 use Rattle.cesu8_bytes.proofs.order.same_in_front.Given.{Over}
 use Rattle.cesu8_bytes.proofs.order.same_in_front.Goals as goal
 
--- The result is the first lane that differs.
+-- The result is the index of the first lane that differs.
 first : (g : Over) (c : goal.After-first_bit g) →
     c.first_bit.result ≡ prefix_len (λ b. not b) (differ c.args.offset g.row.N c.args.bytes.now c.args.other.now)
 first g c =

@@ -1,11 +1,11 @@
-//! The shuffles that pack eight bytes, one for each set of those that go.
+//! The shuffles that drop some of eight bytes, one for each subset.
 
 ghost use Rattle.cesu8_bytes.specs.Packing.{AreShufflesOfEight};
 
 use crate::Rows;
 
-/// In row `gone` byte `i` goes if bit `i` of `gone` is set. The last number is how many bytes are
-/// written. The zeros before it are what the contract has; what they pack is written over.
+/// Row `gone` drops byte `i` if bit `i` of `gone` is set. Its last number is the count of bytes
+/// that are kept. The zeros between are part of the contract, and what they select is overwritten.
 const ROWS: Rows = [
     [0, 1, 2, 3, 4, 5, 6, 7, 0, 0, 0, 0, 0, 0, 0, 8],
     [1, 2, 3, 4, 5, 6, 7, 0, 0, 0, 0, 0, 0, 0, 0, 7],
@@ -265,7 +265,7 @@ const ROWS: Rows = [
     [0, 0, 0, 0, 0, 0, 0, 0, 0, 0, 0, 0, 0, 0, 0, 0],
 ];
 
-/// Returns a reference to the rows of eight.
+/// Returns a reference to the table.
 pub fn rows_of_eight() -> &'static Rows
     ensures { AreShufflesOfEight result.now }
 {

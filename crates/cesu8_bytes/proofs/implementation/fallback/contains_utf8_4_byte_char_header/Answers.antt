@@ -1,5 +1,5 @@
--- This is also found with no answer. Where an edit of must-fail makes it false, this search gives up
--- sooner than those that are tried there.
+-- The prover finds this proof by itself too. It is given here for an edit of must-fail that makes
+-- the goal false: this search fails sooner than the prover's own.
 use Rattle.std.proofs.Common.{rules}
 use Rattle.cesu8_bytes.proofs.implementation.fallback.contains_utf8_4_byte_char_header.Goals as goal
 

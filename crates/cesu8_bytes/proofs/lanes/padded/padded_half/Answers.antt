@@ -6,7 +6,7 @@ use lib.Lanes.{pick_l}
 use Rattle.cesu8_bytes.proofs.vectors.Padded.{indices_from, indices_ok, moved}
 use Rattle.cesu8_bytes.proofs.lanes.padded.padded_half.Goals as goal
 
--- Two halves are picked as they stand.
+-- The shuffle with the indices 0 to 31 concatenates two halves.
 picked : (first second : List ℕ) → length first ≡ 16 → length second ≡ 16 → pick_l 0 (first ++ second) (range_with_len 0 32) ≡ first ++ second
 picked first second long other_long =
     let both = length-append first second in
