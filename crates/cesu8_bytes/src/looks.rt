@@ -1,8 +1,8 @@
 //! Fast paths: what a call checks inline, before it calls anything.
 //!
 //! Most strings in class files, tag files and keys are short ASCII. A public call inlines one of
-//! these checks and returns if it succeeds. All but the last have a size limit: beyond it, the check
-//! costs other input more than it saves ASCII.
+//! these checks and returns if it succeeds. All but the last have a size limit: beyond it, the
+//! check costs other input more than it saves ASCII.
 //!
 //! | limit (bytes) | check | used by |
 //! |---|---|---|

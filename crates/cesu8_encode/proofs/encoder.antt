@@ -1,4 +1,4 @@
--- The encoder, by vectors.
+-- The encoder: the lengths, the definition by offsets, and what its vectors compute.
 pub mod EncodedLengths
 pub mod RecodedText
 pub mod UnchangedBytes

@@ -1,11 +1,12 @@
-//! Encodes 32 bytes, by vectors.
+//! Encodes a block of 32 bytes with vectors.
 //!
-//! A byte becomes one byte or two, as the two before it, itself and the next decide. Loads that
-//! begin a byte apart have these four in one lane each. Of a row of eight bytes, sixteen lanes are
-//! packed by one shuffle and stored, and the next row overwrites those that it does not need.
+//! Each byte becomes one byte or two, which depend on the byte, the two before it and the one after
+//! it. Four loads that begin one byte apart put these four bytes into one lane each. Eight bytes
+//! become a row of sixteen lanes. One shuffle packs the lanes that are written. The row is stored
+//! whole, and the next row overwrites what lies after its end.
 //!
-//! A block within a text can be copied where no byte of it changes, nor one of the two before it.
-//! Where null characters alone change, no neighbour decides anything, and lanes take fewer steps.
+//! A block inside a string can be copied if no byte of it changes, nor one of the two before it. If
+//! only null characters change, no neighbour matters, and computing the lanes takes fewer steps.
 
 ghost use Rattle.std.specs.Prelude.{◌≡◌, List, Bool, ◌+◌, ◌*◌, ◌<◌, ◌≤◌, ◌++◌, length, take, IsTrue};
 ghost use Rattle.std.specs.Simd.Lanes.{chunk, mask_l};
@@ -22,22 +23,23 @@ use cesu8_bytes::lanes::short::any_in_ends;
 use cesu8_bytes::writing::put::put;
 use std::simd::prelude::*;
 
-/// How many bytes before a block are read with it, since they decide what its bytes become.
+/// The bytes before a block that are read with it, since they decide what its bytes become.
 pub const READ_BEFORE: usize = 2;
 
-/// How many bytes after a block are read with it: of `a b c d`, `a` and `b` take bits of the next.
+/// The bytes after a block that are read with it: of `a b c d`, `a` and `b` take bits of the next.
 pub const READ_AFTER: usize = 1;
 
-/// How many bytes are read to encode a block.
+/// The bytes that are read to encode a block.
 pub const BLOCK_READ: usize = READ_BEFORE + BLOCK + READ_AFTER;
 
-/// How many bytes of a block form a row.
+/// The bytes of a block that form a row.
 const ROW: usize = 8;
 
-/// How many bytes are stored for the rows of a block, and the most that its encoding has.
+/// The bytes that are stored for the rows of a block. Its encoding has at most as many.
 pub const BLOCK_ENCODED: usize = 2 * BLOCK;
 
-/// Writes what the first `count` bytes of the block at an offset become, and returns its end.
+/// Encodes the first `count` bytes of the block that begins `READ_BEFORE` bytes after `at`, and
+/// returns the end of what it wrote.
 #[inline(always)]
 pub fn write_block<F: Flavor>(
     window: &[u8],
@@ -55,7 +57,7 @@ pub fn write_block<F: Flavor>(
     write_lanes(&block, count, out, end)
 }
 
-/// Returns true only where the block at an offset stays as it is, whatever byte comes after it.
+/// Returns true only if the block is unchanged, whatever byte follows it.
 #[inline(always)]
 pub fn is_unchanged<F: Flavor>(window: &[u8], at: usize) -> bool
     requires { at + BLOCK_READ ≤ length window.now }
@@ -66,8 +68,8 @@ pub fn is_unchanged<F: Flavor>(window: &[u8], at: usize) -> bool
     !any_in_ends::<Either<F::Null, AtLeastF0>, BLOCK>(near)
 }
 
-/// Writes what a block becomes in a text without a byte of F0 or more (hexadecimal), and returns
-/// its end. Null characters become C0 80.
+/// Encodes a block of a window without a byte of F0 or more (hexadecimal), and returns the end of
+/// what it wrote. Null characters become C0 80.
 #[inline(always)]
 pub fn write_nulls<F: Flavor>(window: &[u8], at: usize, out: &mut [u8], end: usize) -> usize
     requires window { at + BLOCK_READ ≤ length window.now }
@@ -84,8 +86,8 @@ pub fn write_nulls<F: Flavor>(window: &[u8], at: usize, out: &mut [u8], end: usi
     write_lanes(&block, BLOCK, out, end)
 }
 
-/// What the bytes of a block become. A byte becomes its lane of `seconds`, and if its bit of
-/// `doubled` is set, its lane of `firsts` before that.
+/// What is written for the bytes of a block: for each byte its lane of `seconds`, preceded by its
+/// lane of `firsts` if its bit of `doubled` is set.
 #[derive(Drop)]
 struct EncodedBlock {
     seconds: u8x32,
@@ -93,7 +95,7 @@ struct EncodedBlock {
     doubled: u64,
 }
 
-/// Returns the lanes of the block that follows the first `at` bytes of a window, and two more.
+/// Computes the lanes of the block that begins two bytes after `at`.
 #[inline(always)]
 fn encode_block<F: Flavor>(window: &[u8], at: usize) -> EncodedBlock
     requires { at + BLOCK_READ ≤ length window.now }
@@ -106,14 +108,16 @@ fn encode_block<F: Flavor>(window: &[u8], at: usize) -> EncodedBlock
     let null = nulls::<F>(bytes);
 
     let next = u8x32::from_slice(&window[at + 3..]);
-    // The last four bits of each byte and two of the next.
+    // The last four bits of each byte and two bits of the next one.
     let six_bits = ((bytes << u8x32::splat(2)) & u8x32::splat(0x3C))
         | ((next >> u8x32::splat(4)) & u8x32::splat(0x03));
-    // For a lead byte 80 becomes 9F: A0, the least second byte of a pair, less the plane offset.
+    // For a lead byte, 9F instead of 80: A0, the least second byte of a pair, less the plane
+    // offset.
     let of_high = six_bits.strict_add(u8x32::splat(0x80) | (lead & u8x32::splat(0x1F)));
     let other = bytes | (lead_two_before & u8x32::splat(0x30)) | (null & u8x32::splat(0x80));
     let is_of_high = lead | lead_before;
-    // No byte is both, so a sum joins the tests. `|` would do so too, but compiles to a third test.
+    // No byte is both a lead and a null, so a sum joins the two tests. With `|` the compiler would
+    // add a third test.
     let doubled = lead.strict_add(null) | lead_two_before;
     EncodedBlock {
         seconds: is_of_high.simd_eq(u8x32::splat(0)).select(other, of_high),
@@ -124,7 +128,7 @@ fn encode_block<F: Flavor>(window: &[u8], at: usize) -> EncodedBlock
     }
 }
 
-/// Stores a row, packed, and returns the end of its content.
+/// Packs and stores a row, and returns the end of its content.
 #[inline(always)]
 fn store_row(lanes: u8x16, doubled: usize, out: &mut [u8], at: usize) -> usize
     requires small { doubled < 0x100 }
@@ -140,9 +144,10 @@ fn store_row(lanes: u8x16, doubled: usize, out: &mut [u8], at: usize) -> usize
     at + ROW + doubled.count_ones() as usize
 }
 
-/// Writes what the lanes say of the first `count` bytes of a block, and returns its end.
+/// Writes what the lanes say for the first `count` bytes of a block, and returns its end.
 ///
-/// The rows are stored whole if they fit, and the next block overwrites the bytes beyond the end.
+/// If the four rows fit, they are stored whole, and the next block overwrites what lies after the
+/// end.
 #[inline(always)]
 fn write_lanes(block: &EncodedBlock, count: usize, out: &mut [u8], end: usize) -> usize
     requires count { count ≤ BLOCK }
@@ -158,7 +163,7 @@ fn write_lanes(block: &EncodedBlock, count: usize, out: &mut [u8], end: usize) -
     put(&stored[..len], out, end)
 }
 
-/// Stores the four rows of a block, and returns the end of its content for its first `count` bytes.
+/// Stores the four rows of a block, and returns the end of the content for its first `count` bytes.
 #[inline(always)]
 fn store_block(block: &EncodedBlock, count: usize, out: &mut [u8], end: usize) -> usize
     requires count { count ≤ BLOCK }

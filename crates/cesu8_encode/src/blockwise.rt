@@ -1,7 +1,8 @@
-//! Encodes a text, a block at a time, to a slice that is long enough.
+//! Encodes a string block by block, to a slice that is long enough.
 //!
-//! The bytes around a block are read with it, since what is written for a byte depends on its
-//! neighbours. At the ends of the text, where there are none, a small array of zeros replaces them.
+//! A block is read together with the bytes around it, since what is written for a byte depends on
+//! its neighbours. At the start and the end of the string, an array of zeros supplies the missing
+//! neighbours.
 
 ghost use Rattle.std.specs.Prelude.{◌+◌, ◌*◌, ◌<◌, ◌≤◌, length};
 ghost use Rattle.std.specs.Str.{chars};
@@ -16,9 +17,10 @@ use cesu8_bytes::BLOCK;
 use cesu8_bytes::flavor::Flavor;
 use cesu8_bytes::lanes::short::copy_short;
 
-/// Writes the encoding of a text, and returns its end. It is told how many bytes more than the text
-/// the encoding has, or 0 if that is not known. It is inlined: where the slice is an array on the
-/// stack, no test is left whether the rows of a block fit.
+/// Writes the encoding of a string, and returns its length. `more` is the number of bytes by which
+/// the encoding is longer than the string, or 0 if that is not known. The function is inlined: if
+/// the slice is an array on the stack, the compiler removes the test whether the rows of a block
+/// fit.
 #[inline(always)]
 pub fn write<F: Flavor>(text: &str, more: usize, out: &mut [u8]) -> usize
     requires { length (encoding F.flavor (chars text.now)) ≤ length out.old }
@@ -33,9 +35,8 @@ pub fn write<F: Flavor>(text: &str, more: usize, out: &mut [u8]) -> usize
     write_block::<F>(&window, 0, bytes.len(), out, 0)
 }
 
-/// Writes the encoding of a longer text, and returns its end. It is told how many bytes more than
-/// the text the encoding has, or 0 if that is not known. For speed alone it decides by this how
-/// blocks are written.
+/// Like `write`, for a string of more than a block. Which strategy encodes the blocks depends on
+/// `more`, for speed only.
 #[inline(never)]
 fn write_blocks<F: Flavor>(text: &str, more: usize, out: &mut [u8]) -> usize
     requires long { BLOCK < length text.now }
@@ -49,7 +50,7 @@ fn write_blocks<F: Flavor>(text: &str, more: usize, out: &mut [u8]) -> usize
     write_last::<F>(bytes, BLOCK * blocks, out, end)
 }
 
-/// Writes what the first block becomes, and returns its end.
+/// Encodes the first block, and returns the end of what it wrote.
 #[inline(always)]
 fn write_first<F: Flavor>(text: &[u8], out: &mut [u8]) -> usize
     requires long { BLOCK < length text.now }
@@ -57,13 +58,14 @@ fn write_first<F: Flavor>(text: &[u8], out: &mut [u8]) -> usize
     ensures { Writes F.flavor text.now BLOCK out.old out.new result }
 {
     let mut window = [0; BLOCK_READ];
-    // Nothing precedes the block.
+    // Zeros stand for the bytes before the block.
     window[READ_BEFORE..].copy_from_slice(&text[..BLOCK + READ_AFTER]);
     write_block::<F>(&window, 0, BLOCK, out, 0)
 }
 
-/// Writes what the blocks between the first and the last become, and returns its end. `middle_of`
-/// chooses the writer: `NullChange` is right where no byte is F0 or more, the others for any text.
+/// Encodes the blocks between the first and the last, and returns the end of what it wrote. The
+/// strategy `NullChange` is correct only if no byte is F0 or more (hexadecimal), and `middle_of`
+/// chooses it only then. The others are correct for any string.
 #[inline(always)]
 fn write_middle<F: Flavor>(
     text: &[u8],
@@ -78,7 +80,7 @@ fn write_middle<F: Flavor>(
     ensures { Writes F.flavor text.now (BLOCK * blocks) out.old out.new result }
 {
     if blocks == 1 {
-        // The last block follows the first, so no test of the text is of use.
+        // The last block follows the first one, so testing the string gains nothing.
         return start;
     }
     match middle_of::<F>(text, more, blocks) {
@@ -88,7 +90,8 @@ fn write_middle<F: Flavor>(
     }
 }
 
-/// Does so by `W`, whose `write` is inlined: each way has its own loop, so no block asks for it.
+/// Like `write_middle`, by the strategy `W`. `W::write` is inlined, so each strategy has a loop of
+/// its own that does not test which strategy it is.
 #[inline(always)]
 fn write_middle_by<F: Flavor, W: BlockWriter>(
     text: &[u8],
@@ -109,7 +112,7 @@ fn write_middle_by<F: Flavor, W: BlockWriter>(
     end
 }
 
-/// Writes what the last block becomes, and returns its end.
+/// Encodes the last block, and returns the end of what it wrote.
 #[inline(always)]
 fn write_last<F: Flavor>(text: &[u8], at: usize, out: &mut [u8], end: usize) -> usize
     requires offset { (BLOCK ≤ at) × (at < length text.now) × (length text.now ≤ at + BLOCK) }
@@ -118,7 +121,7 @@ fn write_last<F: Flavor>(text: &[u8], at: usize, out: &mut [u8], end: usize) -> 
     ensures { Writes F.flavor text.now (length text.now) out.old out.new result }
 {
     let mut window = [0; BLOCK_READ];
-    // Nothing follows the block.
+    // Zeros stand for the bytes after the block.
     let near = &text[at - READ_BEFORE..];
     window[..near.len()].copy_from_slice(near);
     write_block::<F>(&window, 0, text.len() - at, out, end)

@@ -1,4 +1,4 @@
-//! Encodes to a caller's buffer: copies the text if no byte changes, and writes otherwise.
+//! Encodes to a caller's buffer: copies the string if no byte changes, and encodes it otherwise.
 
 ghost use Rattle.std.specs.Prelude.{◌<◌, ◌≤◌, length};
 ghost use Rattle.std.specs.Str.{chars};
@@ -14,14 +14,15 @@ use cesu8_bytes::lengths::encoded_len;
 use cesu8_bytes::looks::{few_need_encoded, needs_encoded};
 use cesu8_bytes::writing::copies::{NoRoom, copy_to_slice};
 
-/// Writes the encoding of a text to a caller's buffer, if it fits. What changes is not inlined: a
-/// text that stays as it is then uses no stack.
+/// Writes the encoding of a string to the start of a caller's buffer, if it fits, and returns its
+/// length. Encoding is out of line, so that a string that does not change uses no stack.
 #[inline(always)]
 pub fn encode_to_slice<F: Flavor>(text: &str, buf: &mut [u8]) -> Result<usize, NoRoom>
     ensures { PutsAnswer (encoding F.flavor (chars text.now)) result buf.old buf.new }
 {
     if is_block(text) {
-        // The test and the copy ask for no greater length.
+        // The compiler knows that the test and the copy get at most 32 bytes, and leaves out the
+        // rest.
         if !few_need_encoded::<F>(text) {
             return copy_to_slice(text.as_bytes(), buf);
         }
@@ -33,7 +34,7 @@ pub fn encode_to_slice<F: Flavor>(text: &str, buf: &mut [u8]) -> Result<usize, N
     put_in_place::<F>(text, buf)
 }
 
-/// Encodes a block or less to the stack, and copies that.
+/// Encodes at most a block to the stack, and copies the result.
 #[inline(never)]
 #[tactic(auto, using(cesu8_text::proofs::encoding::Lengths::length_encoding_chars))]
 fn put_on_stack<F: Flavor>(text: &str, buf: &mut [u8]) -> Result<usize, NoRoom>
@@ -45,7 +46,7 @@ fn put_on_stack<F: Flavor>(text: &str, buf: &mut [u8]) -> Result<usize, NoRoom>
     copy_to_slice(&written[..len], buf)
 }
 
-/// Counts the encoding, and writes it where it stays.
+/// Counts the length of the encoding, and encodes in place.
 #[inline(never)]
 #[tactic(auto, using(crate::proofs::encoder::EncodedLengths::no_shorter))]
 fn put_in_place<F: Flavor>(text: &str, buf: &mut [u8]) -> Result<usize, NoRoom>

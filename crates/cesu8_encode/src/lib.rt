@@ -1,24 +1,29 @@
-//! The encoder: from the UTF-8 of a text to its encoding.
+//! Encodes a string's UTF-8 as CESU-8 or MUTF-8, 32 bytes at a time.
 //!
-//! The two bytes before a byte of UTF-8 and the one after it decide what is written for it. So
-//! vectors encode 32 bytes at a time. Between the first block and the last, one branch copies those
-//! of which no byte changes. It is left out where many change, as the length of the encoding shows.
-//! Where many change, MUTF-8 tests the whole text once. No other branch depends on what a byte is.
-//! The four bytes `a b c d` of one character become a surrogate pair, ED and two bytes each:
+//! What is written for a byte of UTF-8 depends only on the byte, the two before it and the one
+//! after it. So vectors compute it for all bytes of a block at once, with no branch on what a byte
+//! is. The four bytes `a b c d` of one character become a surrogate pair, ED and two bytes each:
 //!
 //! ```text
 //! a ──► ED, three bits of a and two of b, less 1     c ──► ED, four bits of c
 //! b ──► four bits of b and two of c                  d ──► d
 //! ```
 //!
-//! In MUTF-8 the byte 00 becomes C0 80, and every other byte stays. So a row of eight bytes becomes
-//! sixteen lanes, and one shuffle packs those that are written. `blocks` makes the lanes, `rows`
-//! has the shuffles, `blockwise` the loop over the text, and `middle` what that loop does with a
-//! block inside the text. `way` says which texts go which way.
+//! In MUTF-8 the byte 00 becomes C0 80. Every other byte is unchanged. So eight bytes become a row
+//! of sixteen lanes, and one shuffle packs those that are written.
 //!
-//! This file has what builds or appends an encoding, and `copy_or_write` what writes it to a
-//! caller's buffer. The names of this crate are no promise to users: `simd_cesu8` has the public
-//! calls.
+//! Between the first block and the last, one branch copies blocks in which no byte changes. If many
+//! bytes change, as the length of the encoding shows, there is no such branch, and MUTF-8 tests
+//! once whether only null characters change.
+//!
+//! - `blocks`: encodes one block
+//! - `rows`: the shuffles
+//! - `blockwise`: the loop over the blocks of a string
+//! - `middle`: what that loop does with a block inside the string
+//! - `way`: which strategy is used for which string
+//!
+//! This file builds or appends an encoding, and `copy_or_write` writes it to a caller's buffer. The
+//! crate is internal and may change at any time. `simd_cesu8` has the public calls.
 #![tactic(auto)]
 
 ghost use Rattle.std.specs.Prelude.{◌≡◌, ◌+◌, ◌*◌, ◌<◌, ◌≤◌, length, OnOk, OnErr, vec_len, vec_capacity};
@@ -42,12 +47,13 @@ use cesu8_bytes::lengths::encoded_len;
 use cesu8_bytes::writing::copies::{append, append_zeros, copy};
 use std::alloc::{AllocError, Global};
 
-/// The most bytes that the encoding of any text has that goes to the stack.
+/// The length of the longest encoding that is written to the stack.
 const ON_STACK_ENCODED: usize = 2 * ON_STACK;
 
-/// Returns the encoding of a text, after one request for exactly its length. A short text goes to
-/// an array, and is not counted; a block to a smaller one, cleared in less time. It is not inlined:
-/// to borrow then uses no stack. `encode_on_stack` is, so that `write` tests no length again.
+/// Returns the encoding of a string, with one allocation of exactly its length. A short string is
+/// encoded to an array on the stack, without counting first. A block uses a smaller array, which is
+/// zeroed faster. This function is out of line, so that callers that borrow use no stack.
+/// `encode_on_stack` is inlined, so that `write` does not test the length again.
 #[inline(never)]
 pub fn encode<F: Flavor>(alloc: Global, text: &str) -> Result<Vec<u8>, AllocError>
     ensures { BuildsEncoding F.flavor text.now result }
@@ -64,7 +70,7 @@ pub fn encode<F: Flavor>(alloc: Global, text: &str) -> Result<Vec<u8>, AllocErro
     Ok(encoded)
 }
 
-/// Encodes a text to an array of this length on the stack, and returns a copy.
+/// Encodes a string to an array of `N` bytes on the stack, and returns a copy.
 #[inline(always)]
 #[tactic(auto, using(cesu8_text::proofs::encoding::Lengths::length_encoding_chars))]
 fn encode_on_stack<F: Flavor, const N: usize>(
@@ -75,13 +81,13 @@ fn encode_on_stack<F: Flavor, const N: usize>(
     ensures { BuildsEncoding F.flavor text.now result }
 {
     let mut written = [0; N];
-    // The encoding is not counted before.
+    // The length of the encoding is not known.
     let len = write::<F>(text, 0, &mut written);
     copy(alloc, &written[..len])
 }
 
-/// Appends the encoding of a text, which has this length. It makes one request if the capacity is
-/// too small.
+/// Appends the encoding of a string. `len` is the length of the encoding. If the capacity is too
+/// small, it allocates once.
 #[tactic(auto, using(cesu8_text::proofs::encoding::NeedsEncoding::encoding_as_long))]
 pub fn encode_into<F: Flavor>(text: &str, len: usize, out: &mut Vec<u8>) -> Result<(), AllocError>
     requires { len ≡ length (encoding F.flavor (chars text.now)) }
@@ -89,7 +95,8 @@ pub fn encode_into<F: Flavor>(text: &str, len: usize, out: &mut Vec<u8>) -> Resu
 {
     make_room(len, out)?;
     if len == text.len() {
-        // An encoding that differs from the UTF-8 is longer.
+        // If the encoding is as long as the UTF-8, it equals the UTF-8: any other encoding is
+        // longer.
         append(text.as_bytes(), out);
     } else {
         append_changed::<F>(text, len, out);
@@ -97,7 +104,8 @@ pub fn encode_into<F: Flavor>(text: &str, len: usize, out: &mut Vec<u8>) -> Resu
     Ok(())
 }
 
-/// Requests capacity for so many bytes more, but nothing where it is there, as `stays` promises.
+/// Reserves capacity for `len` more bytes. If the capacity is enough, it is unchanged and nothing
+/// is allocated, as `stays` promises.
 fn make_room(len: usize, out: &mut Vec<u8>) -> Result<(), AllocError>
     ensures items { out.new.items ≡ out.old.items }
     ensures ok { OnOk result (vec_len out.new + len ≤ vec_capacity out.new) }
@@ -113,7 +121,7 @@ fn make_room(len: usize, out: &mut Vec<u8>) -> Result<(), AllocError>
     out.reserve(len)
 }
 
-/// Appends the encoding of a text, which has this length, to a buffer with enough capacity.
+/// Appends the encoding of a string, which has the length `len`, to a buffer with enough capacity.
 #[inline(always)]
 #[tactic(auto, using(crate::proofs::encoder::EncodedLengths::no_shorter))]
 fn append_changed<F: Flavor>(text: &str, len: usize, out: &mut Vec<u8>)

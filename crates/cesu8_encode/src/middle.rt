@@ -1,5 +1,5 @@
-//! How the blocks between the first and the last of a text are written. Each way gives the same for
-//! every text that it may take; `way` says which one is fast.
+//! Strategies to encode the blocks between the first and the last of a string. They write the same
+//! bytes for every string that they may be used for, and `way` chooses the fastest.
 
 ghost use Rattle.std.specs.Prelude.{ℕ, List, ◌+◌, ◌≤◌, length};
 ghost use Rattle.cesu8_text.specs.Class.{is_at_least_f0};
@@ -13,12 +13,13 @@ use cesu8_bytes::flavor::Flavor;
 use cesu8_bytes::writing::put::put_lanes;
 use std::simd::prelude::*;
 
-/// A way to write a block.
+/// A strategy to encode a block.
 pub trait BlockWriter {
-    /// What must be known of the text.
+    /// What has to hold for the string.
     ghost knows: { List ℕ → Type 0 };
 
-    /// Writes what a whole block becomes, `READ_BEFORE` bytes behind `at`, and returns its end.
+    /// Encodes the whole block that begins `READ_BEFORE` bytes after `at`, and returns the end of
+    /// what it wrote.
     fn write<F: Flavor>(text: &[u8], at: usize, out: &mut [u8], end: usize) -> usize
         requires window { at + BLOCK_READ ≤ length text.now }
         requires known { Self.knows text.now }
@@ -26,13 +27,14 @@ pub trait BlockWriter {
         ensures { WritesAt (encoded_bytes F.flavor text.now at BLOCK) end out.old out.new result };
 }
 
-/// Anything in the block can change.
+/// Encodes each block, whatever changes in it.
 pub struct AnyChange;
 
-/// Null characters alone can change, since the text has no byte of F0 or more (hexadecimal).
+/// Encodes null characters only. No other byte changes, since no byte is F0 or more (hexadecimal).
 pub struct NullChange;
 
-/// A block is copied if no byte of it, or of the two before, changes. Most text has runs of these.
+/// Copies a block if no byte of it changes, nor one of the two before it. Most text has runs of
+/// these.
 pub struct CopyUnchanged;
 
 impl BlockWriter for AnyChange {

@@ -1,12 +1,12 @@
-//! The shuffles that pack a row of eight bytes, one for each set of bytes that become two.
+//! The shuffles that pack a row of eight bytes, one for each subset of bytes that become two.
 
 ghost use Rattle.cesu8_encode.specs.EncodedOffsets.{AreShuffles};
 
 use cesu8_bytes::Rows;
 
-/// A row for each set of eight bytes. Lane `i` has the last byte that is written for byte `i`, and
-/// lane `8 + i` the one before it, which row `doubled` keeps if bit `i` of `doubled` is set. The
-/// zeros behind are what the contract has; what they pack stands behind what is written.
+/// Lane `i` has the last byte that is written for byte `i`, and lane `8 + i` the one before it. Row
+/// `doubled` keeps lane `8 + i` if bit `i` of `doubled` is set. The zeros at the end are part of
+/// the contract, and what they select lies after the end of the row's content.
 const ROWS: Rows = [
     [0, 1, 2, 3, 4, 5, 6, 7, 0, 0, 0, 0, 0, 0, 0, 0],
     [8, 0, 1, 2, 3, 4, 5, 6, 7, 0, 0, 0, 0, 0, 0, 0],
@@ -266,7 +266,7 @@ const ROWS: Rows = [
     [8, 0, 9, 1, 10, 2, 11, 3, 12, 4, 13, 5, 14, 6, 15, 7],
 ];
 
-/// Returns a reference to the rows.
+/// Returns a reference to the table.
 pub fn rows() -> &'static Rows
     ensures { AreShuffles result.now }
 {

@@ -1,38 +1,45 @@
-//! Which way a text is encoded. No other file of this crate decides that.
+//! Which strategy encodes a string. No other file of this crate decides that.
 //!
-//! A text of at most a block, 32 bytes, is encoded as one block, and a longer one by several.
+//! A string of at most a block, 32 bytes, is encoded as one block, and a longer one as several.
 //!
-//! An encoding has at most twice the bytes of its text. So `encode` writes one of at most 128 bytes
-//! to the stack before its length is known, and copies it: to count it first takes longer. A block
-//! or less goes to an array of 64 bytes, since a larger one takes longer to clear. Others are
-//! counted, and written where they stay, as all are where the length is known (`encode_into`).
+//! An encoding is at most twice as long as the string. So `encode` writes the encoding of at most
+//! 128 bytes to the stack before its length is known, and copies it: counting first takes longer.
+//! At most a block goes to an array of 64 bytes, since a larger one takes longer to zero. Longer
+//! strings are counted, and encoded in place. So is every string whose encoding has a known length
+//! (`encode_into`).
 //!
-//! To a slice, more than a block is counted, and written in place. A block or less goes to the
-//! stack, and is copied: its rows are stored whole, and what is behind the encoding has to stay.
+//! To a caller's slice, more than a block is counted, and encoded in place. At most a block is
+//! encoded to the stack and copied: its rows are stored whole, and the slice after the encoding
+//! must not change.
 //!
-//! These ways are tests and no enum: `encode` asked for the value of one, for 13 instructions.
+//! These strategies are tests and no enum: computing the value of one cost `encode` 13
+//! instructions.
 //!
-//! Between its first block and its last, a text has blocks that have the bytes around them beside
-//! them. What changes in the text says how these are written. The first row that fits decides:
+//! The blocks between the first and the last have bytes of the string on both sides. How these are
+//! encoded depends on the growth: how many bytes longer than the string the encoding is. The first
+//! row that applies decides:
 //!
-//! | bytes that the encoding has more                | `Middle`        | what is done with a block |
-//! |-------------------------------------------------|-----------------|---------------------------|
-//! | at most one for four blocks, or it is not known | `CopyUnchanged` | copied, or written as next |
-//! | more, and no byte is F0 or more (hexadecimal)   | `NullChange`    | written with its nulls    |
-//! | fewer than three for four blocks                | `CopyUnchanged` | copied, or written as next |
-//! | more                                            | `AnyChange`     | written with its pairs    |
+//! | growth, in bytes                              | `Middle`        | a block is         |
+//! |-----------------------------------------------|-----------------|--------------------|
+//! | at most one for four blocks, or unknown       | `CopyUnchanged` | copied, or encoded |
+//! | more, and no byte is F0 or more (hexadecimal) | `NullChange`    | nulls are encoded  |
+//! | fewer than three for four blocks              | `CopyUnchanged` | copied, or encoded |
+//! | more                                          | `AnyChange`     | encoded            |
 //!
-//! To copy a block takes the least time. But a processor often guesses wrong which blocks change,
-//! and a wrong guess takes as long as to write a block. So no block is copied where about a quarter
-//! change or more, or with pairs a third, since a block with pairs takes longer to write. The
-//! average of the text decides: one that is dense with pairs in a part alone may have its other
-//! blocks written where they could be copied.
+//! The second row is for MUTF-8 only. `CopyUnchanged` copies a block in which nothing changes. That
+//! takes the least time, but which blocks change is often mispredicted, and a misprediction costs
+//! as much as encoding a block. So no block is copied if about a quarter of them change. With
+//! surrogate pairs it is a third, since such a block takes longer to encode. The average over the
+//! string decides: if one part of it is dense with pairs, the blocks of other parts are encoded
+//! although they could be copied.
 //!
-//! `NullChange` gains for a null in 2 to 50 bytes, `AnyChange` from 512 bytes on for a pair in 20
-//! to 50 bytes or all widths, and `CopyUnchanged` for a pair in 300 bytes or more.
+//! | `Middle`        | is faster for                                                            |
+//! |-----------------|--------------------------------------------------------------------------|
+//! | `NullChange`    | a null in 2 to 50 bytes                                                  |
+//! | `AnyChange`     | 512 bytes or more: a pair in 20 to 50 bytes, or characters of all widths |
+//! | `CopyUnchanged` | a pair in 300 bytes or more                                              |
 //!
-//! Other lengths choose no way: `append` and the vectors of `cesu8_bytes` have widths, and `looks`
-//! there sees whether a byte changes.
+//! Other thresholds are in `cesu8_bytes`: the widths of vectors, and the fast paths of `looks`.
 
 ghost use Rattle.std.specs.Prelude.{◌≤◌, ◌↔◌, length, IsTrue};
 ghost use Rattle.cesu8_encode.specs.Ways.{FitsMiddle};
@@ -42,10 +49,10 @@ use cesu8_bytes::flavor::Flavor;
 use cesu8_bytes::lanes::class::AtLeastF0;
 use cesu8_bytes::lanes::search::any_in_bytes;
 
-/// The most bytes of a text that is encoded to the stack before its length is known.
+/// The longest string that is encoded to the stack before the length of its encoding is known.
 pub const ON_STACK: usize = 128;
 
-/// Returns whether a text is encoded as one block.
+/// Returns whether a string is encoded as one block.
 #[inline(always)]
 pub fn is_block(text: &str) -> bool
     ensures { IsTrue result ↔ length text.now ≤ BLOCK }
@@ -53,7 +60,7 @@ pub fn is_block(text: &str) -> bool
     text.len() <= BLOCK
 }
 
-/// Returns whether a text is encoded to the stack before its length is known.
+/// Returns whether a string is encoded to the stack before the length of its encoding is known.
 #[inline(always)]
 pub fn is_for_stack(text: &str) -> bool
     ensures { IsTrue result ↔ length text.now ≤ ON_STACK }
@@ -61,7 +68,7 @@ pub fn is_for_stack(text: &str) -> bool
     text.len() <= ON_STACK
 }
 
-/// A way to write the blocks between the first and the last. Each is a type of `middle`.
+/// A strategy for the blocks between the first and the last. Each is a type of `middle`.
 #[derive(Clone, Copy)]
 pub enum Middle {
     CopyUnchanged,
@@ -69,14 +76,14 @@ pub enum Middle {
     AnyChange,
 }
 
-/// Returns the way of the blocks between the first and the last of a text, by how many bytes more
-/// than the text its encoding has, or 0 if that is not known, and by how many blocks come before
-/// the last.
+/// Returns the strategy for the blocks between the first and the last of a string. `more` is the
+/// number of bytes by which the encoding is longer than the string, or 0 if that is not known.
+/// `blocks` is the number of blocks before the last.
 #[inline(always)]
 pub fn middle_of<F: Flavor>(text: &[u8], more: usize, blocks: usize) -> Middle
     ensures { FitsMiddle result text.now }
 {
-    // One more, since the first and the last block have some of them.
+    // One more, because some of the bytes belong to the first and the last block.
     if more <= 1 + blocks / 4 {
         return Middle::CopyUnchanged;
     }

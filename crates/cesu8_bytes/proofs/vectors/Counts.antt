@@ -49,12 +49,12 @@ bits_behind p xs n bits le is = grind (arith, drop-map, length-map, mask_rest, o
 abbrev pub ones : (ℕ → Bool) → List ℕ → List ℕ
 ones p xs = map (λ x. cond (p x) 1 0) xs
 
--- Each of them is at most one.
+-- Each element of `ones` is at most one.
 ones_low : (p : ℕ → Bool) (xs : List ℕ) → Each1 (λ a. a ≤ 1) (ones p xs)
 ones_low p [] = tt
 ones_low p (x ∷ xs) = (grind arith, ones_low p xs)
 
--- Their sum is the number of elements that pass.
+-- The sum of `ones` is the number of elements that pass.
 ones_total : (p : ℕ → Bool) (xs : List ℕ) → sum_l (ones p xs) ≡ count_by p xs
 ones_total p [] = refl
 ones_total p (x ∷ xs) = grind (arith, common_steps, ones_total p xs)
@@ -71,30 +71,30 @@ module _ (p : ℕ → Bool) (block : List ℕ) (n : ℕ) (lanes : List ℕ) (mar
   abbrev more : List ℕ
   more = sel_l (map (top 7) (map (of_z w8) marks)) (replicate 64 1) (replicate 64 0)
 
-  -- What is added for the next vector is one for each byte of the class.
+  -- `more` is one for each byte of the class in the next vector.
   ones_of_next : more ≡ ones p (chunk (64 * n) 64 block)
   ones_of_next = chosen_by_marks p 64 1 0 (chunk (64 * n) 64 block) marks marked (length-chunk (64 * n) 64 block room)
 
-  -- It has 64 lanes.
+  -- `more` has 64 lanes.
   more_long : length more ≡ 64
   more_long = ap length ones_of_next ∙ length-map (chunk (64 * n) 64 block) (λ x. cond (p x) 1 0) ∙ length-chunk (64 * n) 64 block room
 
-  -- Each lane of it is at most one.
+  -- Each lane of `more` is at most one.
   more_low : Each1 (λ a. a ≤ 1) more
   more_low = subst (Each1 (λ a. a ≤ 1)) (sym ones_of_next) (ones_low p (chunk (64 * n) 64 block))
 
-  -- Adding it does not overflow a lane.
+  -- Adding `more` overflows no lane.
   pub one_more_fits : n < 255 → Each2 (λ a b. Fits w8 (a + b)) lanes more
   one_more_fits few =
       Each2-of (λ a. a ≤ n) (λ b. b ≤ 1) (λ a b. Fits w8 (a + b)) (λ a b h k. record { fits = omega arith }) lanes more have.low more_low
 
-  -- Adding it adds the count of the next 64 bytes.
+  -- Adding `more` adds the count of the next 64 bytes.
   total_more : sum_l (zip2 (λ a b. a + b) lanes more) ≡ count_by p (take (64 * n + 64) block)
   total_more =
       let more_total : sum_l more ≡ count_by p (chunk (64 * n) 64 block) = ap sum_l ones_of_next ∙ ones_total p (chunk (64 * n) 64 block) in
       omega (arith, sum-zip2 lanes more (have.long ∙ sym more_long), sum_by_next (λ y. cond (p y) 1 0) block (64 * n) 64)
 
-  -- After it is added, one more vector is counted.
+  -- After `more` is added, one more vector is counted.
   pub counted_more : HaveCounted p block (n + 1) (zip2 (λ a b. a + b) lanes more)
   counted_more = record {
     long = length-zip2 (λ a b. a + b) lanes more (have.long ∙ sym more_long) ∙ have.long;

@@ -18,13 +18,13 @@ use Rattle.cesu8_bytes.proofs.vectors.Rows.{lowest, shuffled, first_mask, row_ma
 abbrev low_halves : List ℕ → List ℕ
 low_halves row = zip2 bit_and row (replicate 16 0x0F)
 
--- They are below 16.
+-- The lower halves are below 16.
 low_below : (row : List ℕ) → Each1 (λ j. j < 16) (low_halves row)
 low_below row =
     Each1-zip2 bit_and (λ j. j < 16) row (replicate 16 0x0F) (Each2-splat (λ a b. bit_and a b < 16) row 16 0x0F
     (Each1-all (λ a. bit_and a 0x0F < 16) (λ a. omega (arith, and_le_r a 0x0F)) row))
 
--- They are valid indices of a shuffle.
+-- The lower halves are valid indices of a shuffle.
 pub low_ok : (row : List ℕ) → length row ≡ 16 → SwzOk w8 16 16 0 (low_halves row)
 low_ok row long = SwzOk-from_below w8 16 1 16 0 (low_halves row) refl (omega (arith, length-zip2 bit_and row (replicate 16 0x0F) long)) (low_below row)
 
@@ -59,8 +59,7 @@ kept_written g (s ∷ gone) (d ∷ ill_formed) i e r =
     let behind = λ (some : 0 < mask_l ill_formed). r (omega arith) in
     rw (goes.0, goes.1, fails.0, fails.1) (kept_one g i s d _ _ here (kept_written g gone ill_formed (i + 1) (omega arith) behind))
 
--- The lanes that are kept by two sets of bits are what is written for the tests that these bits
--- are.
+-- The lanes that two sets keep are what is written for the tests whose masks the sets are.
 pub lanes_written : (n gone_set ill_formed_set : ℕ) (lanes : List ℕ) (gone ill_formed : List Bool) → length gone ≡ n → length ill_formed ≡ n →
     gone_set ≡ mask_l gone → ill_formed_set ≡ mask_l ill_formed → lanes_at lanes (range_with_len 0 n) ≡ chunk 0 n lanes →
     HasReplacement (λ j. get_or lanes (j % 0x10) 0) ill_formed_set →
@@ -95,7 +94,7 @@ module _ (n gone_set ill_formed_set most : ℕ) (row : List ℕ) (row_is : row �
   last_is : get_or row 15 0 ≡ length kept
   last_is = ap (λ r. get_or r 15 0) row_is ∙ get_or_at (kept ++ zeros) (length kept) [] 0 15 prefix_long
 
-  -- It is at most the bound.
+  -- The last number of a row is at most the bound.
   pub end_of_row : get_or row 15 0 ≤ most
   end_of_row = omega (arith, last_is)
 
@@ -118,7 +117,7 @@ module _ (n gone_set ill_formed_set most : ℕ) (row : List ℕ) (row_is : row �
 abbrev kept_of_eight : ℕ → List ℕ
 kept_of_eight gone = kept_of gone 0 0 8
 
--- They are at most eight.
+-- A row of eight bytes keeps at most eight lanes.
 pub few_of_eight : (gone : ℕ) → gone < 0x100 → length (kept_of_eight gone) ≤ 8
 unfolding is_short
 few_of_eight = at_most kept_of_eight 8 refl

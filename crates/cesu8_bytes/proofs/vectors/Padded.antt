@@ -19,11 +19,11 @@ index_at behind m low l =
     get_or-chunk 0 16 (chunk behind (32 - behind) INDICES) m 0 l ∙ ap (λ k. get_or (chunk behind (32 - behind) INDICES) k 0) here
     ∙ get_or-chunk behind (32 - behind) INDICES m 0 (omega arith)
 
--- There are sixteen of them.
+-- `indices_from` has sixteen indices.
 long_indices : (behind : ℕ) → behind ≤ 16 → length (indices_from behind) ≡ 16
 long_indices behind low = length-chunk 0 16 (chunk behind (32 - behind) INDICES) (omega (arith, length-chunk behind (32 - behind) INDICES (omega arith)))
 
--- Each selects one of sixteen lanes, or gives zero.
+-- Each index selects one of sixteen lanes, or gives zero.
 pub indices_ok : (behind : ℕ) → behind ≤ 16 → SwzOk w8 16 16 0 (indices_from behind)
 indices_ok behind low =
     SwzOk-from_Each1 w8 16 1 16 0 (indices_from behind) refl (omega (arith, long_indices behind low))
@@ -36,7 +36,7 @@ indices_ok behind low =
 index_of_half : (j : ℕ) → j < 16 → get_or INDICES j 0 ≡ j
 index_of_half j l = eqb-true _ _ (agree_below_at (λ k. eqb (get_or INDICES k 0) k) (λ _. true) 16 j refl l)
 
--- The others give zero.
+-- The other sixteen indices give zero.
 index_behind : (k : ℕ) → k < 16 → zeroes 16 w8 (get_or INDICES (16 + k) 0) ≡ true
 index_behind k l = agree_below_at (λ k. zeroes 16 w8 (get_or INDICES (16 + k) 0)) (λ _. true) 16 k refl l
 

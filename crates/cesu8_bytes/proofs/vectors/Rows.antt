@@ -68,13 +68,13 @@ row_mask a ts d le is =
 pub first_mask : (ts : List Bool) (d : ℕ) → 8 ≤ length ts → d ≡ mask_l ts → bit_and d 0xFF ≡ mask_l (chunk 0 8 ts)
 first_mask ts d le is = and_mask d 8 ∙ ap (λ m. m % 0x100) is ∙ mask_prefix 8 ts le
 
--- Adjacent lanes of two concatenated vectors that are in the first are lanes of the first.
+-- A range of lanes of two concatenated vectors that is in the first is a range of the first.
 pub lanes_of_first : (xs ys : List ℕ) (a n : ℕ) → a + n ≤ length xs → pick_l 0 (xs ++ ys) (range_with_len a n) ≡ chunk a n xs
 lanes_of_first xs ys a n le =
     pick_l-range_with_len 0 (xs ++ ys) a n (omega (arith, length-append xs ys))
     ∙ ap (take n) (drop-append-le a xs ys (omega arith)) ∙ take-append-le n (drop a xs) ys (omega (arith, length-drop a xs))
 
--- Adjacent lanes of two concatenated vectors that are in the second are lanes of the second.
+-- A range of lanes of two concatenated vectors that is in the second is a range of the second.
 pub lanes_of_second : (xs ys : List ℕ) (k a n : ℕ) → length xs ≡ k → a + n ≤ length ys → pick_l 0 (xs ++ ys) (range_with_len (k + a) n) ≡ chunk a n ys
 lanes_of_second xs ys k a n e le =
     pick_l-range_with_len 0 (xs ++ ys) (k + a) n (omega (arith, length-append xs ys))

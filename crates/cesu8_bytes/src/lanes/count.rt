@@ -2,10 +2,10 @@
 //! and two if it leads four bytes. The sum is the growth of an encoding, or the number of code
 //! units.
 //!
-//! In blocks of 1,024 bytes, each lane of a vector counts its own bytes. These are at most 16, so no
-//! lane overflows. Then the lanes are summed. In the rest, the bits of a mask are counted for each
-//! vector. The last vector overlaps the one before it, and the bits that were counted already are
-//! shifted out.
+//! In blocks of 1,024 bytes, each lane of a vector counts its own bytes. These are at most 16, so
+//! no lane overflows. Then the lanes are summed. In the rest, the bits of a mask are counted for
+//! each vector. The last vector overlaps the one before it, and the bits that were counted already
+//! are shifted out.
 
 ghost use Rattle.std.specs.Prelude.{◌≡◌, ℕ, ◌<◌, ◌≤◌, ◌+◌, ◌-◌, ◌*◌, length, drop, sum_by};
 ghost use Rattle.std.specs.Simd.Lanes.{sum_l};

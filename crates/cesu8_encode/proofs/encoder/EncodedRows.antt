@@ -1,4 +1,4 @@
--- How a row of eight bytes is packed by a shuffle.
+-- Packing eight bytes by a shuffle, and 32 bytes by four of them.
 use Rattle.std.proofs.lemmas.Bool.Decides.{nat_tests}
 use Rattle.std.proofs.lemmas.Grind.{common_steps}
 use Rattle.std.proofs.Common.{◌≡◌, ℕ, zero, suc, ◌+◌, ◌<◌, ◌≤◌, Bool, true, List, [], ◌∷◌, ◌++◌, map, length, take, drop, get_or, append_assoc, eqb, ltb, refl, sym, ◌∙◌, subst, arith, w8, count_ones, eqb-true, append-nil}
@@ -12,7 +12,7 @@ use lib.Lanes.{mask_l, put_chunk, chunk, pick_l, Each1}
 use Rattle.cesu8_encode.specs.EncodedOffsets.{packed, kept_lanes, shuffle_of}
 use Rattle.cesu8_bytes.proofs.vectors.Rows.{lowest, shuffled, stored_prefix, lanes_of_first, lanes_of_second}
 
--- The lanes that are kept are those that are packed.
+-- The lanes that the shuffle keeps are what is packed.
 kept_packed : (g : ℕ → ℕ) (ts : List Bool) (i : ℕ) →
     map g (kept_lanes (mask_l ts) i (length ts)) ≡ packed ts (map g (range_with_len (8 + i) (length ts))) (map g (range_with_len i (length ts)))
 kept_packed g [] i = refl
@@ -21,7 +21,7 @@ kept_packed g (t ∷ ts) i =
     let next : 8 + i + 1 ≡ 8 + (i + 1) = omega arith in
     rw (low.0, low.1, next) (grind (arith, common_steps, kept_packed g ts (i + 1)))
 
--- They are as many as bytes and set bits.
+-- The shuffle keeps as many lanes as there are bytes and set bits.
 length_kept : (ts : List Bool) (i : ℕ) → length (kept_lanes (mask_l ts) i (length ts)) ≡ length ts + count_ones (mask_l ts)
 unfolding lib.Count.ones
 length_kept [] i = refl
@@ -31,15 +31,17 @@ length_kept (t ∷ ts) i =
 
 -- ---- shuffles
 
--- Each lane of a shuffle is below 16, and they are sixteen.
+-- Each index of a shuffle is below 16.
 shuffle_below : (d : ℕ) → d < 0x100 → Each1 (λ j. j < 16) (shuffle_of d)
 shuffle_below d l =
     let low = AllPass-from_list_all (λ j. ltb j 16) (shuffle_of d) (agree_below_at (λ d. list_all (λ j. ltb j 16) (shuffle_of d)) (λ d. true) 0x100 d refl l) in
     Each1-from_get_or (λ j. j < 16) (shuffle_of d) 0 (λ m within. ltb-true _ _ (All-get_or (λ j. ltb j 16 ≡ true) (shuffle_of d) m 0 within low))
 
+-- A shuffle has sixteen indices.
 shuffle_long : (d : ℕ) → d < 0x100 → length (shuffle_of d) ≡ 16
 shuffle_long d l = eqb-true _ _ (agree_below_at (λ d. eqb (length (shuffle_of d)) 16) (λ d. true) 0x100 d refl l)
 
+-- The indices of a shuffle are valid for sixteen lanes.
 pub shuffle_ok : (d : ℕ) (row : List ℕ) → d < 0x100 → row ≡ shuffle_of d → SwzOk w8 16 16 0 row
 shuffle_ok d row l is = subst (SwzOk w8 16 16 0) (sym is) (SwzOk-from_below w8 16 1 16 0 (shuffle_of d) refl (omega (arith, shuffle_long d l)) (shuffle_below d l))
 
@@ -54,22 +56,25 @@ module _ (out lanes row : List ℕ) (at d : ℕ) (ts : List Bool)
   abbrev kept : List ℕ
   kept = kept_lanes d 0 8
 
+  -- The lanes that the row keeps are what is packed.
   kept_is : map lane kept ≡ packed ts (chunk 8 8 lanes) (chunk 0 8 lanes)
   kept_is =
       rw (← d_is, ts_long) at (kept_packed lane ts 0)
       ∙ rw (pick_l-range_with_len 0 lanes 8 8 (omega arith), pick_l-range_with_len 0 lanes 0 8 (omega arith)) refl
 
+  -- A row keeps eight lanes, and one more for each set bit.
   kept_long : length kept ≡ 8 + count_ones d
   kept_long = rw (← d_is, ts_long) at (length_kept ts 0)
 
-  -- After a row is stored, what is up to its end is what was there, and the row packed.
+  -- After a row is stored, its packed content follows what preceded it, up to the end of the
+  -- content.
   pub stored_row : (end : ℕ) → end ≡ at + 8 + count_ones d →
       take end (put_chunk at out (swz_l w8 16 lanes 0 row)) ≡ take at out ++ packed ts (chunk 8 8 lanes) (chunk 0 8 lanes)
   stored_row end end_is = grind (arith, nat_tests, common_steps, kept_is, kept_long, length-map, map-append, shuffle_below, shuffle_long, shuffled, stored_prefix, swz_l)
 
 -- ---- four rows
 
--- What is written for a list of bytes is what is written for its front and for the rest.
+-- Packing a list packs its first n bytes, and then the rest.
 packed_parts : (n : ℕ) (ts : List Bool) (firsts seconds : List ℕ) → length ts ≡ length firsts → length ts ≡ length seconds →
     packed ts firsts seconds ≡ packed (take n ts) (take n firsts) (take n seconds) ++ packed (drop n ts) (drop n firsts) (drop n seconds)
 packed_parts zero ts firsts seconds e f = refl
@@ -79,20 +84,22 @@ packed_parts (suc n) (t ∷ ts) (a ∷ firsts) [] e f = absurd (omega arith)
 packed_parts (suc n) (t ∷ ts) (a ∷ firsts) (b ∷ seconds) e f = grind (arith, common_steps, packed_parts n ts firsts seconds)
 
 module _ (firsts seconds : List ℕ) (ts : List Bool) (f : length firsts ≡ 32) (s : length seconds ≡ 32) (t : length ts ≡ 32) where
-  -- the vector of a row
+  -- The vector of a row: eight seconds and eight firsts.
   abbrev halves : ℕ → List ℕ
   halves a = pick_l 0 (seconds ++ firsts) (range_with_len a 8 ++ range_with_len (32 + a) 8)
 
+  -- What is packed for a row.
   abbrev row : ℕ → List ℕ
   row a = packed (chunk a 8 ts) (chunk 8 8 (halves a)) (chunk 0 8 (halves a))
 
+  -- Packing from byte a on packs a row, and then the rest.
   part : (a : ℕ) → a + 8 ≤ 32 → packed (drop a ts) (drop a firsts) (drop a seconds) ≡ row a ++ packed (drop (a + 8) ts) (drop (a + 8) firsts) (drop (a + 8) seconds)
   part a le =
       packed_parts 8 (drop a ts) (drop a firsts) (drop a seconds)
       (omega (arith, length-drop a ts, length-drop a firsts)) (omega (arith, length-drop a ts, length-drop a seconds))
       ∙ rw (drop-drop 8 a ts, drop-drop 8 a firsts, drop-drop 8 a seconds, lanes_of_first seconds firsts a 8 (omega arith), lanes_of_second seconds firsts 32 a 8 s (omega arith)) refl
 
-  -- The four rows, one behind the other, are the block.
+  -- Four rows in turn are the packed block.
   pub four_rows : (x0 x1 x2 x3 x4 : List ℕ) → x1 ≡ x0 ++ row 0 → x2 ≡ x1 ++ row 8 → x3 ≡ x2 ++ row 16 → x4 ≡ x3 ++ row 24 →
       x4 ≡ x0 ++ packed ts firsts seconds
   four_rows x0 x1 x2 x3 x4 e1 e2 e3 e4 =

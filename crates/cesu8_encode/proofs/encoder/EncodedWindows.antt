@@ -1,4 +1,5 @@
--- What is written for parts of a text.
+-- What is written for a part of a text, which the encoder reads through a window with zeros at the
+-- ends.
 use Rattle.std.proofs.lemmas.Bool.Decides.{nat_tests}
 use Rattle.std.proofs.lemmas.Grind.{common_steps}
 use Rattle.std.proofs.Common.{◌≡◌, ℕ, zero, suc, ◌+◌, ◌-◌, ◌*◌, ◌%◌, ◌^◌, ◌<◌, ◌≤◌, Bool, cond, List, [], ◌∷◌, ◌++◌, map, refl, sym, ap, ◌∙◌, arith, length, take, drop, get_or, replicate, bit_and, length-append, append_assoc, count_ones}
@@ -19,6 +20,7 @@ use Rattle.cesu8_encode.proofs.encoder.EncodedLanes.{packed_offsets}
 use Rattle.cesu8_bytes.proofs.vectors.Rows.{mask_prefix}
 use Rattle.cesu8_bytes.proofs.vectors.Loads.{zeros_at, padded}
 
+-- A range of n + m offsets is a range of n and one of m.
 range_parts : (i n m : ℕ) → range_with_len i (n + m) ≡ range_with_len i n ++ range_with_len (i + n) m
 range_parts i zero m = grind arith
 range_parts i (suc n) m =
@@ -26,25 +28,27 @@ range_parts i (suc n) m =
     let e' : i + suc n ≡ i + 1 + n = omega arith in
     rw (e, e') (ap (λ l. i ∷ l) (range_parts (i + 1) n m))
 
--- What is written for n bytes and m more is what is written for each.
+-- What is written for n + m bytes is what is written for n, and then for m.
 encoded_bytes_append : (f : Flavor) (window : List ℕ) (i n m : ℕ) → encoded_bytes f window i (n + m) ≡ encoded_bytes f window i n ++ encoded_bytes f window (i + n) m
 unfolding encoded_bytes
 encoded_bytes_append f window i n m =
     ap (flat_map (encoded_byte_at f window)) (range_parts i n m) ∙ flat_map-append (encoded_byte_at f window) (range_with_len i n) (range_with_len (i + n) m)
 
--- a part up to the end, as the code takes it
+-- The text from offset i on, as the code takes it.
 abbrev part_from : ℕ → List ℕ → List ℕ
 part_from i text = take (length text - i) (drop i text)
 
--- What is written for that part, behind its first two bytes, is what is written for the text there.
+-- What is written for the part of a text from two bytes before offset i on is what is written for
+-- the text there.
 encoded_bytes_drop : (f : Flavor) (text : List ℕ) (i n : ℕ) → 2 ≤ i → encoded_bytes f (part_from (i - 2) text) 0 n ≡ encoded_bytes f (0 ∷ 0 ∷ text) i n
 encoded_bytes_drop f text i n le = rw (take_all (length text - (i - 2)) (drop (i - 2) text) (omega (arith, length-drop (i - 2) text)))
     (encoded_bytes_agree f (drop (i - 2) text) (0 ∷ 0 ∷ text) 0 i n (λ k l.
     let there : suc (suc (i - 2 + k)) ≡ i + k = omega arith in
     grind (arith, get_or-drop (i - 2) text k 0, ap (λ m. get_or (0 ∷ 0 ∷ text) m 0) there)))
 
--- ---- a block of which fewer bytes count
+-- ---- the first bytes of a block
 
+-- Packing has a byte for each element, and one more for each that passes.
 length_written : (t : ℕ → Bool) (g h : ℕ → ℕ) (vs : List ℕ) →
     length (flat_map (λ v. cond (t v) (g v ∷ h v ∷ []) (h v ∷ [])) vs) ≡ length vs + count_ones (mask_l (map t vs))
 unfolding lib.Count.ones
@@ -52,7 +56,7 @@ length_written t g h [] = refl
 length_written t g h (v ∷ vs) =
     grind (arith, common_steps, ones-mask_l_cons (t v) (map t vs), length_written t g h vs)
 
--- What is written for n bytes has as many bytes as they and the bits of those that become two.
+-- The length of what is written for n bytes: n, and one more for each byte that becomes two.
 length_offsets : (f : Flavor) (window : List ℕ) (i n : ℕ) →
     length (encoded_bytes f window i n) ≡ n + count_ones (mask_l (map (is_doubled_at f window) (range_with_len i n)))
 unfolding encoded_bytes
@@ -60,23 +64,23 @@ length_offsets f window i n =
     length_written (is_doubled_at f window) (inserted_at f window) (changed_at f window) (range_with_len i n)
     ∙ ap (λ k. k + count_ones (mask_l (map (is_doubled_at f window) (range_with_len i n)))) (length-range_with_len i n)
 
--- What packing the lanes of a block writes is what is written for its offsets.
+-- Packing the lanes of a block gives what is written for its offsets.
 packed_block : (f : Flavor) (window : List ℕ) (i n : ℕ) →
     packed (map (is_doubled_at f window) (range_with_len i n)) (map (inserted_at f window) (range_with_len i n)) (map (changed_at f window) (range_with_len i n))
     ≡ encoded_bytes f window i n
 unfolding encoded_bytes
 packed_block f window i n = packed_offsets (is_doubled_at f window) (inserted_at f window) (changed_at f window) (range_with_len i n)
 
--- The number of n set bits, as the code makes it.
+-- The number with the lowest n bits set, as the code computes it.
 ones_are : (n : ℕ) → n ≤ 32 → 1 * 2 ^ n % 0x10000000000000000 - 1 ≡ 2 ^ n - 1
 ones_are n le = grind (arith, nat_tests, common_steps, mod-eq_of_lt, pow_mono)
 
--- The bits that the code counts are those of the first n bytes.
+-- Counting the bits that the code selects gives `packed_len`.
 pub counted : (n doubled : ℕ) → n ≤ 32 →
     n + count_ones (bit_and doubled (1 * 2 ^ n % 0x10000000000000000 - 1)) ≡ packed_len doubled n
 counted n doubled le = ap (λ k. n + count_ones (bit_and doubled k)) (ones_are n le) ∙ ap (λ b. n + count_ones b) (and_mask doubled n)
 
--- The bits of the first n bytes of a block tell how long what is written for them is.
+-- `packed_len` is the length of what is written for the first n bytes of a block.
 pub prefix_long : (f : Flavor) (window : List ℕ) (i n doubled : ℕ) → n ≤ 32 →
     doubled ≡ mask_l (map (is_doubled_at f window) (range_with_len i 32)) →
     packed_len doubled n ≡ length (encoded_bytes f window i n)
@@ -88,7 +92,7 @@ prefix_long f window i n doubled le doubled_is =
     ∙ ap mask_l (take-map-range_with_len tests i 32 n le) in
     ap (λ b. n + count_ones b) prefix ∙ sym (length_offsets f window i n)
 
--- The prefix of what is stored of a block is what is written for its first n bytes.
+-- What is written for the first n bytes of a block is a prefix of what is stored for the block.
 pub prefix_of_block : (f : Flavor) (window before out : List ℕ) (i n stored end : ℕ) → n ≤ 32 → stored ≤ length out →
     take stored out ≡ before ++ encoded_bytes f window i 32 → end ≡ length before + length (encoded_bytes f window i n) →
     take end out ≡ before ++ encoded_bytes f window i n
@@ -110,11 +114,12 @@ lanes_packed f window i seconds firsts doubled lanes = record {
       (λ j. packed (map (is_doubled_at f window) (range_with_len i 32)) (lanes.firsts_are j) (lanes.seconds_are j)) ∙ packed_block f window i 32;
 }
 
--- What is left of zeros is zeros.
+-- Zeros without the first m of them are zeros.
 zeros_left : (n m j : ℕ) → ◌≡◌ {A = ℕ} (get_or (drop m (replicate n 0)) j 0) 0
 zeros_left n m j = get_or-drop m (replicate n 0) j 0 ∙ zeros_at n (m + j)
 
--- Of the window in which a text's first bytes stand between zeros, the first bytes of the text are written,
+-- The first block: a window of two zeros, the first 33 bytes of the text and more zeros gives the
+-- same as the text.
 pub encoded_bytes_first : (f : Flavor) (text near : List ℕ) (zeros m n : ℕ) → n ≤ 32 → near ≡ take 33 text →
     encoded_bytes f (0 ∷ 0 ∷ (near ++ drop m (replicate zeros 0))) 0 n ≡ encoded_bytes f (0 ∷ 0 ∷ text) 0 n
 encoded_bytes_first f text near zeros m n le is =
@@ -125,7 +130,7 @@ encoded_bytes_first f text near zeros m n le is =
     first (suc zero) l = refl
     first (suc (suc k)) l = padded near _ (zeros_left zeros m) k ∙ ap (λ xs. get_or xs k 0) is ∙ get_or-take 33 text k 0 (omega arith)
 
--- For a text that is a block or less, that is its encoding.
+-- A text of at most a block: what is written for it, followed by zeros, is its encoding.
 pub encoded_short : (f : Flavor) (bytes text near : List ℕ) → near ≡ bytes ++ drop (length bytes) (replicate 33 0) →
     bytes ≡ text → IsUtf8 text → length text ≤ 32 →
     encoded_bytes f (0 ∷ 0 ∷ (near ++ [])) 0 (length bytes) ≡ encoding f (chars text)
@@ -135,7 +140,8 @@ encoded_short f bytes text near near_is same is_utf8 short =
     ∙ encoded_bytes_first f bytes bytes 33 (length bytes) (length bytes) le (sym (take_all 33 bytes (omega arith)))
     ∙ recoded_chars f text bytes same is_utf8
 
--- and of that in which zeros follow its last bytes, those from i on.
+-- The last block: a window of the last bytes of the text, followed by zeros, gives the same as the
+-- text.
 pub encoded_bytes_last : (f : Flavor) (text near : List ℕ) (i n : ℕ) → 2 ≤ i → near ≡ part_from (i - 2) text →
     encoded_bytes f (near ++ drop (length (part_from (i - 2) text)) (replicate 35 0)) 0 n ≡ encoded_bytes f (0 ∷ 0 ∷ text) i n
 encoded_bytes_last f text near i n le is =
@@ -144,7 +150,8 @@ encoded_bytes_last f text near i n le is =
     (λ k l. padded near (drop m (replicate 35 0)) (zeros_left 35 m) (0 + k))
     ∙ ap (λ window. encoded_bytes f window 0 n) is ∙ encoded_bytes_drop f text i n le
 
--- What is written for n bytes and then m is no longer than what is written for as many and more.
+-- What is written for n bytes and then for m fits if what is written for at least as many bytes
+-- does.
 pub room_for_parts : (f : Flavor) (window : List ℕ) (i n m whole : ℕ) → n + m ≤ whole →
     length (encoded_bytes f window i n) + length (encoded_bytes f window (i + n) m) ≤ length (encoded_bytes f window i whole)
 room_for_parts f window i n m whole le =
@@ -157,19 +164,19 @@ module _ (f : Flavor) (text : List ℕ) where
   abbrev around : List ℕ
   around = 0 ∷ 0 ∷ text
 
-  -- What is written for bytes within a text.
+  -- What is written for bytes inside a text does not depend on the zeros around it.
   pub encoded_bytes_here : (i n : ℕ) → 2 ≤ i → encoded_bytes f text (i - 2) n ≡ encoded_bytes f around i n
   encoded_bytes_here i n le = encoded_bytes_agree f text around (i - 2) i n (λ k l.
       let there : suc (suc (i - 2 + k)) ≡ i + k = omega arith in
       ap (λ m. get_or around m 0) there)
 
-  -- There is room for what is written for n bytes more, behind what is written for the first i.
+  -- What is written for the next n bytes fits after what is written for the first i.
   pub room_behind : (i n end : ℕ) (out piece : List ℕ) → piece ≡ encoded_bytes f around i n → i + n ≤ length text → IsWritten f text i out end →
       length (recoded f text) ≤ length out → end + length piece ≤ length out
   room_behind i n end out piece same le written room =
       grind (arith, same, written.0, length-take-le end out written.1, room_for_parts f around 0 i n (length text) le)
 
-  -- With n bytes more.
+  -- After what is written for n more bytes is appended, the first i + n bytes are written.
   pub written_behind : (i n end after : ℕ) (old out piece : List ℕ) → IsWritten f text i old end →
       take after out ≡ take end old ++ piece → piece ≡ encoded_bytes f around i n → after ≤ length out → IsWritten f text (i + n) out after
   written_behind i n end after old out piece written is piece_is within = grind (arith, nat_tests, common_steps, encoded_bytes_append)

@@ -1,4 +1,5 @@
--- Blocks in which no byte is F0 or more, nor in the two before: of their bytes null alone changes.
+-- Blocks of a window without a byte of F0 or more (hexadecimal): only null characters change in
+-- them.
 use Rattle.std.proofs.lemmas.Bool.Decides.{nat_tests}
 use Rattle.std.proofs.lemmas.Grind.{common_steps}
 use Rattle.std.proofs.Common.{◌≡◌, ℕ, zero, suc, ◌+◌, ◌<◌, ◌≤◌, Bool, false, List, ◌∷◌, map, refl, ap, ◌∙◌, arith, length, get_or, replicate, bit_and, bit_or}
@@ -15,11 +16,11 @@ use Rattle.cesu8_encode.specs.EncodedOffsets.{changed, encoded_byte_at, encoded_
 use Rattle.cesu8_bytes.proofs.vectors.Loads.{loaded, marks_at}
 use Rattle.cesu8_encode.proofs.encoder.RecodedText.{or_zero}
 
--- None of n bytes from an offset on is F0 or more.
+-- None of the n bytes from an offset on is F0 or more.
 abbrev Low : List ℕ → ℕ → ℕ → Type 0
 Low window i n = (k : ℕ) → i ≤ k → k < i + n → is_at_least_f0 (get_or window k 0) ≡ false
 
--- None is where no byte of the window is.
+-- If no byte of the window is F0 or more, none at these offsets is.
 low : (window : List ℕ) (i n : ℕ) → i + n ≤ length window → (AnyIn is_at_least_f0 window → ⊥) → Low window i n
 low window i n room none k from to =
     let within : k < length window = omega arith in
@@ -27,6 +28,7 @@ low window i n room none k from to =
 
 -- ---- the lanes of such a block
 
+-- What is written last for a byte: the byte, with the highest bit set if it is a null that changes.
 low_changed : (f : Flavor) (x y b n : ℕ) → is_at_least_f0 x ≡ false → is_at_least_f0 y ≡ false → is_at_least_f0 b ≡ false →
     bit_or b (bit_and (mask (is_null f b)) 0x80) ≡ changed f x y b n
 low_changed f x y b n hx hy hb = grind (arith, nat_tests, common_steps, or_zero)
@@ -35,6 +37,7 @@ module _ (f : Flavor) (window : List ℕ) where
   abbrev byte : ℕ → ℕ
   byte i = get_or window (i + 2) 0
 
+  -- The bytes with these bits set are the seconds of the block.
   low_seconds : (i n : ℕ) → Low window i (n + 2) →
       zip2 bit_or (map byte (range_with_len i n)) (zip2 bit_and (map (λ j. mask (is_null f (byte j))) (range_with_len i n)) (replicate n 0x80))
       ≡ map (changed_at f window) (range_with_len i n)
@@ -44,12 +47,14 @@ module _ (f : Flavor) (window : List ℕ) where
       (h i (omega arith) (omega arith)) (h (i + 1) (omega arith) (omega arith)) (h (i + 2) (omega arith) (omega arith)) in
       λ j. first j ∷ low_seconds (i + 1) n (λ k from to. h k (omega arith) (omega arith)) j
 
+  -- A byte becomes two if and only if it is a null that changes.
   low_doubled : (i n : ℕ) → Low window i (n + 2) →
       map (λ j. is_null f (byte j)) (range_with_len i n) ≡ map (is_doubled_at f window) (range_with_len i n)
   low_doubled i zero h = refl
   low_doubled i (suc n) h =
       rw (h i (omega arith) (omega arith), h (i + 2) (omega arith) (omega arith), low_doubled (i + 1) n (λ k from to. h k (omega arith) (omega arith))) refl
 
+  -- Packing with C0 as each first byte gives what is written for the block.
   low_written : (i n : ℕ) → Low window i (n + 2) →
       packed (map (is_doubled_at f window) (range_with_len i n)) (replicate n 0xC0) (map (changed_at f window) (range_with_len i n))
       ≡ flat_map (encoded_byte_at f window) (range_with_len i n)
@@ -58,7 +63,8 @@ module _ (f : Flavor) (window : List ℕ) where
       rw (h i (omega arith) (omega arith), h (i + 2) (omega arith) (omega arith))
       (grind (arith, common_steps, low_written (i + 1) n (λ k from to. h k (omega arith) (omega arith))))
 
--- The lanes of such a block, from the bytes and the marks of null.
+-- The lanes that are computed from the bytes and the mask of nulls are packed to what is written
+-- for the block.
 pub low_packed : (f : Flavor) (null_class : ℕ → Bool) (window : List ℕ) (at : ℕ) (null : List ℕ) (doubled : ℕ) → null_class ≡ is_null f → at + 35 ≤ length window →
     (AnyIn is_at_least_f0 window → ⊥) → null ≡ map (λ b. mask (is_null f b)) (chunk (at + 2) 32 window) →
     doubled ≡ mask_l (map null_class (chunk (at + 2) 32 window)) →

@@ -1,4 +1,4 @@
--- Bytes of a window that stay, since none near them changes.
+-- Blocks that are unchanged, because none of their bytes changes, nor one of the two before.
 use Rattle.std.proofs.lemmas.Bool.Decides.{nat_tests}
 use Rattle.std.proofs.lemmas.Grind.{common_steps}
 use Rattle.std.proofs.Common.{◌≡◌, ℕ, zero, suc, ◌+◌, ◌<◌, ◌≤◌, Bool, false, ◌||◌, List, [], ◌∷◌, map, refl, sym, ap, ◌∙◌, arith, length, get_or}
@@ -13,13 +13,16 @@ use Rattle.cesu8_bytes.proofs.lists.Lanes.{none_loaded}
 use Rattle.cesu8_bytes.proofs.vectors.Loads.{loaded}
 use Rattle.cesu8_encode.proofs.encoder.RecodedText.{or_zero}
 
--- Whether a byte changes, or those behind it.
+-- Whether a byte changes, or makes the next bytes change.
 abbrev changes : Flavor → ℕ → Bool
 changes f b = is_null f b || is_at_least_f0 b
 
+-- A byte is written unchanged if `changes` is false for it and for the two bytes before it.
 stays : (f : Flavor) (x y b n : ℕ) → changes f x ≡ false → changes f y ≡ false → changes f b ≡ false → encoded_byte f x y b n ≡ b ∷ []
 stays f x y b n hx hy hb = grind (arith, nat_tests, common_steps, or_parts, or_zero)
 
+-- All n bytes are written unchanged if `changes` is false for them and for the two bytes before
+-- them.
 all_stay : (f : Flavor) (window : List ℕ) (i n : ℕ) → ((k : ℕ) → i ≤ k → k < i + (n + 2) → changes f (get_or window k 0) ≡ false) →
     flat_map (encoded_byte_at f window) (range_with_len i n) ≡ map (λ j. get_or window (j + 2) 0) (range_with_len i n)
 all_stay f window i zero h = refl
@@ -30,7 +33,7 @@ all_stay f window i (suc n) h =
       all_stay f window (i + 1) n (λ k from to. h k (omega arith) (omega arith)),
     ) refl
 
--- A block stays where none of its bytes changes, nor one of the two before it.
+-- A block is unchanged if none of its bytes changes, nor one of the two before it.
 pub unchanged_block : (f : Flavor) (null : ℕ → Bool) (window : List ℕ) (at n : ℕ) → null ≡ is_null f → at + 2 + n ≤ length window →
     (AnyIn (λ b. null b || is_at_least_f0 b) (chunk at (n + 2) window) → ⊥) →
     encoded_bytes f window at n ≡ chunk (at + 2) n window

@@ -1,6 +1,6 @@
--- The check proves these goals without an answer too. They have one for the edits in must-fail: if an
--- edit makes such a goal false, a search for its proof stops at a limit and shows nothing, but an answer
--- by hand is refused.
+-- The prover finds these proofs by itself too. They are given here for the edits of must-fail: if
+-- an edit makes a goal false, the prover's own search ends at a limit without a result, but a proof
+-- by hand is rejected.
 use Rattle.cesu8_encode.proofs.make_room.Goals as goal
 
 pub returns-then-len-capacity-clause-full : goal.returns-then-len-capacity-clause-full

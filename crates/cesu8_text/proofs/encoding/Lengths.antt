@@ -33,7 +33,7 @@ pub record LengthBounds (f : Flavor) (text : List ℕ) : Type 0 where
   pub low : length (utf8 text) ≤ length (encoding f text)
   pub high : length (encoding f text) ≤ 2 * length (utf8 text)
 
--- These bounds hold for each text.
+-- `LengthBounds` holds for each text.
 pub length_bounds : (f : Flavor) (text : List ℕ) → IsText text → LengthBounds f text
 length_bounds f [] is_text = grind (arith, encoding_nil)
 length_bounds f (c ∷ text) is_text =
@@ -48,7 +48,7 @@ pub record CharacterLengths (f : Flavor) (c : ℕ) : Type 0 where
   pub some : 0 < length (utf8_of c)
   pub fits : length (utf8_of c) ≤ length (encoding f (c ∷ []))
 
--- These bounds hold for each scalar value.
+-- `CharacterLengths` holds for each scalar value.
 pub length_of_character : (f : Flavor) (c : ℕ) → IsScalarValue c → CharacterLengths f c
 unfolding encoding form units_of utf8_of
 length_of_character f c scalar = grind (arith, nat_tests)

@@ -73,27 +73,27 @@ encoding_longer f (c ∷ text) is_text needs =
       encoding_longer f text is_text.1,
     )
 
--- The lemmas above for a string in std, whose bytes are UTF-8.
+-- What decides the encoding of a string in std, whose bytes are UTF-8.
 module _ (f : Flavor) (bytes : List ℕ) (is_utf8 : IsUtf8 bytes) where
-  -- Its bytes decide whether it needs encoding.
+  -- The string's bytes decide whether it needs encoding.
   pub needs_by_bytes : Any (IsChangedByte f) bytes ↔ NeedsEncoding f (chars bytes)
   needs_by_bytes =
       let of_chars = IsUtf8Of_chars bytes is_utf8 in rw of_chars.1 at (shows_need f (chars bytes) of_chars.0)
 
-  -- A test for a byte that changes decides whether it needs encoding.
+  -- A test for a byte that changes decides whether the string needs encoding.
   pub needs_by_test : (R : Type 0) → R ↔ Any (IsChangedByte f) bytes → R ↔ NeedsEncoding f (chars bytes)
   needs_by_test R test = ((λ r. needs_by_bytes.0 (test.0 r)), (λ needs. test.1 (needs_by_bytes.1 needs)))
 
-  -- If it needs no encoding, its encoding is its bytes.
+  -- If the string needs no encoding, its encoding is its bytes.
   pub encoding_is_bytes : (NeedsEncoding f (chars bytes) → ⊥) → encoding f (chars bytes) ≡ bytes
   encoding_is_bytes no_need = grind (arith, IsUtf8Of_chars, encoding_same)
 
-  -- If it needs encoding, its encoding is not its bytes.
+  -- If the string needs encoding, its encoding is not its bytes.
   pub encoding_is_not_bytes : NeedsEncoding f (chars bytes) → encoding f (chars bytes) ≡ bytes → ⊥
   encoding_is_not_bytes needs equal =
       grind (arith, IsUtf8Of_chars bytes is_utf8, encoding_longer f (chars bytes), ap length equal)
 
-  -- If its encoding is as long as its bytes, they are equal.
+  -- If the encoding is as long as the string's bytes, they are equal.
   pub encoding_as_long : length (encoding f (chars bytes)) ≡ length bytes → encoding f (chars bytes) ≡ bytes
   encoding_as_long as_long = grind (arith, IsUtf8Of_chars, encoding_is_bytes, encoding_longer)
 

@@ -17,8 +17,8 @@ pub trichotomy : Trichotomy
 trichotomy (x ∷ xs) (y ∷ ys) = grind (arith, cases_order x y, trichotomy xs ys)
 trichotomy xs ys = grind arith
 
--- If each outcome for the second two lists gives that outcome for the first two, they compare
--- alike.
+-- If each outcome of comparing the last two lists gives the same outcome for the first two,
+-- `ComparesAs` holds.
 pub compares_as : (xs ys us vs : List ℕ) → (IsBelow us vs → IsBelow xs ys) → (us ≡ vs → xs ≡ ys) → (IsBelow vs us → IsBelow ys xs) →
     ComparesAs xs ys us vs
 compares_as xs ys us vs below equal above = grind (arith, trichotomy xs ys, trichotomy us vs)

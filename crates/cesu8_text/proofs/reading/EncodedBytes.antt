@@ -17,12 +17,12 @@ pub record IsEncodedByte (f : Flavor) (b : ℕ) : Type 0 where
   pub low : b < 0xF0
   pub some : f ≡ Mutf8 → b ≢ 0
 
--- The encoding of one character has only such bytes.
+-- The encoding of one character has only bytes of `IsEncodedByte`.
 bytes_of_one : (f : Flavor) (c : ℕ) → IsScalarValue c → All (IsEncodedByte f) (encoding f (c ∷ []))
 unfolding encoding form units_of
 bytes_of_one f c scalar = grind (arith, nat_tests)
 
--- The encoding of a text has only such bytes.
+-- The encoding of a text has only bytes of `IsEncodedByte`.
 pub encoded_bytes : (f : Flavor) (text : List ℕ) → IsText text → All (IsEncodedByte f) (encoding f text)
 encoded_bytes f [] is_text = grind (arith, encoding_nil)
 encoded_bytes f (c ∷ text) is_text =

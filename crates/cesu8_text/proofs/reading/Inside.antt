@@ -13,12 +13,12 @@ use Rattle.cesu8_text.specs.Patterns.{IsContinuation}
 abbrev IsInner : List ℕ → ℕ → Type 0
 IsInner bytes j = IsContinuation (get_or bytes j 0) ⊎ ((get_or bytes j 0 ≡ 0xED) × (0xB0 ≤ get_or bytes (suc j) 0))
 
--- No character begins with such a byte.
+-- No character begins with a byte of `IsInner`.
 inner_begins_none : (f : Flavor) (bytes : List ℕ) (c : ℕ) (rest : List ℕ) → IsInner bytes 0 → BeginsWith f bytes c rest → ⊥
 unfolding encoding form units_of
 inner_begins_none f bytes c rest inner begins = grind (arith, nat_tests)
 
--- Each byte of a character after the first is such a byte.
+-- Each byte of a character after the first is one of `IsInner`.
 inner_at : (f : Flavor) (bytes : List ℕ) (c j : ℕ) (rest : List ℕ) → BeginsWith f bytes c rest → 0 < j → j < width f c →
     IsInner bytes j
 unfolding encoding form units_of

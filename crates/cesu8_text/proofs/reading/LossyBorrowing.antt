@@ -27,7 +27,7 @@ length_of_reading f bytes text is_utf8 chars_are = grind (arith, IsUtf8Of_chars)
 abbrev BeginsNone : Flavor → ℕ → Type 0
 BeginsNone f b = ((f ≡ Mutf8) × (b ≡ 0)) ⊎ ((0x80 ≤ b) × ((b < 0xC0) ⊎ (0xF0 ≤ b)))
 
--- Such a byte adds three to the lossy length.
+-- A byte of `BeginsNone` adds three to the lossy length.
 replaced : (f : Flavor) (b : ℕ) (bytes : List ℕ) → BeginsNone f b → lossy_length f (b ∷ bytes) ≡ 3 + lossy_length f bytes
 unfolding encoding form units_of
 replaced f b bytes none = lossy_length_replaced f b bytes (λ c rest begins. grind (arith, nat_tests))
@@ -39,7 +39,7 @@ reading_longer : (f : Flavor) (c : ℕ) (bytes : List ℕ) → IsScalarValue c �
 unfolding utf8_of
 reading_longer f c bytes scalar otherwise = grind (arith, nat_tests, replaced)
 
--- A scalar value that is encoded as its UTF-8 adds the length of this to the lossy length.
+-- A scalar value that is encoded as in UTF-8 adds the length of its UTF-8 to the lossy length.
 as_long : (f : Flavor) (c : ℕ) (bytes : List ℕ) → IsScalarValue c → encoding f (c ∷ []) ≡ utf8_of c →
     lossy_length f (utf8_of c ++ bytes) ≡ length (utf8_of c) + lossy_length f bytes
 as_long f c bytes scalar encoded = grind (arith, lossy_length_character)
@@ -50,7 +50,7 @@ record Sizes (f : Flavor) (text : List ℕ) : Type 0 where
   low : length (utf8 text) ≤ lossy_length f (utf8 text)
   needs : NeedsEncoding f text → length (utf8 text) < lossy_length f (utf8 text)
 
--- Each text is within these bounds.
+-- `Sizes` holds for each text.
 sizes : (f : Flavor) (text : List ℕ) → IsText text → Sizes f text
 sizes f [] is_text = record { low = omega arith; needs = λ needs. absurd (any_nil _ needs) }
 sizes f (c ∷ text) is_text =

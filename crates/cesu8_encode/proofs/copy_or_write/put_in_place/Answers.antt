@@ -2,7 +2,7 @@ use Rattle.std.proofs.Common.{◌∙◌, sym, ap, ℕ, arith, rules, drop, lengt
 use Rattle.std.proofs.lemmas.List.{take_all, length-take}
 use Rattle.cesu8_encode.proofs.copy_or_write.put_in_place.Goals as goal
 
--- The writer gets the room of the encoding alone, and fills it.
+-- The slice that is written to is as long as the encoding, so the encoding fills it.
 pub returns : goal.returns
 returns g c =
     let whole : length c.write.new.out ≤ c.write.result =
