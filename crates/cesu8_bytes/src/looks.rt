@@ -46,7 +46,7 @@ pub fn is_short_ascii(bytes: &[u8]) -> bool
     if bytes.len() > TESTED_AT_ONCE {
         return false;
     }
-    // Most text in other scripts has a byte that is not ASCII in the first 64.
+    // Most input that is not all ASCII has such a byte in the first 64.
     if !are_short(bytes) && has::<NonAscii, LANES>(u8x64::from_slice(bytes)) {
         return false;
     }
@@ -76,8 +76,8 @@ pub fn begins_with_unchanged_ascii<F: Flavor>(bytes: &[u8], len: usize) -> bool
 }
 
 /// Returns whether the encoding changes a byte of this UTF-8. The search is the same in both
-/// branches. In the first one, the compiler leaves out the loop over four vectors at once, which
-/// saves 65 to 255 bytes about six instructions.
+/// branches. In the first one, the compiler leaves out the loop over four vectors at once. That is
+/// five or six instructions less for 65 to 255 bytes.
 #[inline(always)]
 fn contains_changed<F: Flavor>(bytes: &[u8]) -> bool
     ensures { IsTrue result ↔ Any (IsChangedByte F.flavor) bytes.now }
@@ -97,9 +97,9 @@ pub fn needs_encoded<F: Flavor>(value: &str) -> bool
     contains_changed::<F>(value.as_bytes())
 }
 
-/// Returns whether encoding changes a string of at most a block (32 bytes), so that no loop is
-/// inlined. It may also return true for other strings. UTF-8 has no byte above F7 (hexadecimal), so
-/// one comparison finds a four-byte lead.
+/// Returns true if the encoding changes a character of the string. The contract allows it to return
+/// true otherwise. Callers have at most a block (32 bytes), so no loop is inlined. A string has no
+/// byte above F7 (hexadecimal), so one comparison finds a four-byte lead.
 #[inline(always)]
 pub fn few_need_encoded<F: Flavor>(value: &str) -> bool
     ensures { NeedsEncoding F.flavor (chars value.now) → IsTrue result }

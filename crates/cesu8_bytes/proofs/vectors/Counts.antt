@@ -116,10 +116,12 @@ module _ (n : ℕ) (few : n ≤ 16) (lanes : List ℕ) (long : length lanes ≡ 
       (sum_dots n lanes (replicate (4 * n) 1) long (length-replicate (4 * n) 1)).0
       ∙ subst (λ k. sum_l (products lanes (replicate k 1)) ≡ sum_l lanes) long (sum_by-ones lanes)
 
+  -- No partial sum of the dot products overflows 32 bits.
   pub dots_sum_fits : Steps (λ s x. Fits w32 (s + x)) (λ s x. s + x) 0 (dots lanes (replicate (4 * n) 1))
   dots_sum_fits =
       let low = sum_bound 255 lanes (bytes_below lanes fits) in
       sum_fits w32 0 (dots lanes (replicate (4 * n) 1)) (omega (arith, dots_total, low, long))
 
+  -- The sum of the dot products is the sum of the lanes.
   pub dots_sum : fold_l (λ s x. s + x) 0 (dots lanes (replicate (4 * n) 1)) ≡ sum_l lanes
   dots_sum = omega (arith, fold-sum 0 (dots lanes (replicate (4 * n) 1)), dots_total)

@@ -83,6 +83,7 @@ module _ (n gone_set ill_formed_set most : ℕ) (row : List ℕ) (row_is : row �
   abbrev kept : List ℕ
   kept = kept_of gone_set ill_formed_set 0 n
 
+  -- The unused numbers of the row.
   abbrev zeros : List ℕ
   zeros = replicate (15 - length kept) 0
 

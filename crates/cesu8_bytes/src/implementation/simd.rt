@@ -59,8 +59,8 @@ fn lanes_null_four<F: Fn(&[u8]) -> bool>(value: &[u8], fallback: F) -> bool
     any_by_widths::<Either<Null, FourByteLead>, F>(value, fallback)
 }
 
-/// Returns whether some byte is in a class. Each width tests the whole chunks of what the wider
-/// ones left over, and `fallback` tests a single byte at the end.
+/// Returns whether some byte is in a class. Each width tests whole chunks of what the wider ones
+/// left over, and `fallback` tests a single byte at the end.
 #[inline(always)]
 fn any_by_widths<C, F: Fn(&[u8]) -> bool>(value: &[u8], fallback: F) -> bool
 where

@@ -91,7 +91,7 @@ fn lane_sum(lanes: u8x64) -> usize
     lanes.dot4(u8x64::splat(1)).strict_reduce_sum() as usize
 }
 
-/// Returns the sum of the weights, vector by vector.
+/// Returns the sum of the weights of what is left after the blocks, vector by vector.
 #[inline(always)]
 fn rest_weight<C: CountsOne>(value: &[u8]) -> usize
     ensures { result ≡ sum_by (weight_of C.class) value.now }

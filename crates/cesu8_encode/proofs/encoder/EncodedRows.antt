@@ -53,6 +53,7 @@ module _ (out lanes row : List ℕ) (at d : ℕ) (ts : List Bool)
   abbrev lane : ℕ → ℕ
   lane j = get_or lanes j 0
 
+  -- The indices of the lanes that the row keeps.
   abbrev kept : List ℕ
   kept = kept_lanes d 0 8
 

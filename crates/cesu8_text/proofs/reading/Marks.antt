@@ -27,7 +27,7 @@ nothing_stands f bytes none_begins = by (standing f bytes) refl
     by None found = refl
     by (Some c) found = absurd (none_begins c (drop (width f c) bytes) (standing_begins f bytes c found))
 
--- The test at offset j: whether the character there reaches past offset i.
+-- If the character at an earlier offset j reaches past offset i, offset i is in its stretch.
 reaches_stands : (f : Flavor) (bytes : List ℕ) (i j : ℕ) (o : Option ℕ) → standing f (drop j bytes) ≡ o → j < i →
     i < j + width_of f o → LiesWithin f bytes i
 reaches_stands f bytes i j None found before reaches = absurd (omega arith)
