@@ -16,14 +16,14 @@ pub enum Strictness {
 
 /// A type for strict or for lossy decoding.
 pub trait Reading {
-    /// The same choice as a value.
+    /// Strict or lossy, as a value.
     ghost which: { Strictness };
 
     /// The error of strict decoding. For lossy decoding this type has no value, since that cannot
     /// fail.
     type Refusal: Drop;
 
-    /// Returns the choice as a value.
+    /// Returns strict or lossy, as a value.
     fn strictness() -> Strictness
         ensures { result ≡ which };
 

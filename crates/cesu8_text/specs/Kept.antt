@@ -10,11 +10,10 @@ pub record ReadsEncoding (f : Flavor) (bytes : List ℕ) (reads reads_lossily : 
   pub strictly : (text : List ℕ) → reads text ↔ IsStrictReading f bytes text
   pub lossily : (text : List ℕ) → reads_lossily text ↔ text ≡ reading f bytes
 
--- What strict and lossy decoding return for the same bytes, in a mode that keeps some input
--- unchanged.
+-- What strict and lossy decoding return for the bytes, in a mode that returns some input unchanged.
 pub record KnowsTexts (f : Flavor) (bytes : List ℕ) (keeps : Type 0) (reads reads_lossily : List ℕ → Type 0) : Type 0 where
-  -- Only UTF-8 is kept, and UTF-8 in which nothing changes always is. What is kept decodes to its
-  -- own characters.
+  -- Only UTF-8 is kept, and UTF-8 in which nothing changes is always kept. Kept input decodes to
+  -- its own characters.
   pub is_utf8 : keeps → IsUtf8 bytes
   pub unchanged : IsUnchangedUtf8 f bytes → keeps
   pub kept : (text : List ℕ) → keeps → reads text ↔ text ≡ chars bytes

@@ -17,8 +17,8 @@ pub const STORED: usize = 16;
 /// Half the bytes of a block.
 pub const HALF: usize = BLOCK / 2;
 
-/// Stores 32 bytes without those that are dropped, and returns where they end. Bit `i` of `gone` is
-/// set if byte `i` is dropped. The bits above these are ignored.
+/// Stores 32 bytes without those that are dropped, and returns the offset after them. Bit `i` of
+/// `gone` is set if byte `i` is dropped. The bits above these are ignored.
 #[inline(always)]
 pub fn store_kept(bytes: u8x32, gone: usize, out: &mut [u8], at: usize) -> usize
     requires { at + BLOCK + STORED ≤ length out.old }
@@ -34,7 +34,7 @@ pub fn store_kept(bytes: u8x32, gone: usize, out: &mut [u8], at: usize) -> usize
     store_eight(second_of(third), gone >> 24 & 0xFF, out, at)
 }
 
-/// Stores eight bytes without those that are dropped, and returns where they end.
+/// Stores eight bytes without those that are dropped, and returns the offset after them.
 #[inline(always)]
 fn store_eight(lanes: u8x16, gone: usize, out: &mut [u8], at: usize) -> usize
     requires small { gone < 0x100 }

@@ -15,6 +15,6 @@ unchanged_reading f bytes text equal unchanged =
     let needs_none : NeedsEncoding f (chars bytes) → ⊥ = λ needs. unchanged.1 ((needs_by_bytes f bytes unchanged.0).1 needs) in
     rw equal ((IsUtf8Of_chars bytes unchanged.0).0, encoding_is_bytes f bytes unchanged.0 needs_none)
 
--- `false` is the right answer to whether the result is borrowed if that can't be.
+-- If P does not hold, `false` decides P: what is built is never borrowed.
 pub never_borrowed : {P : Type 0} → ¬ P → IsTrue false ↔ P
 never_borrowed never = ((λ borrowed. absurd (false≢true borrowed)), (λ holds. absurd (never holds)))
