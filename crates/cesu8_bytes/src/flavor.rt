@@ -1,9 +1,8 @@
 //! The two encodings as types. They differ only in how they encode U+0000.
 
-ghost use Rattle.std.specs.Prelude.{◌≡◌, ◌↔◌, IsTrue, refl, map, if◌then◌else◌};
+ghost use Rattle.std.specs.Prelude.{◌≡◌, ◌↔◌, IsTrue, refl, map};
 ghost use Rattle.cesu8_text.specs.Encoding.{Flavor as AnyFlavor, Cesu8, Mutf8};
 ghost use Rattle.cesu8_text.specs.Class.{is_null};
-ghost use Rattle.cesu8_bytes.specs.Pairs.{null_at};
 ghost use Rattle.cesu8_bytes.specs.Kernels.{mask};
 
 use crate::lanes::class::{LANES, NoByte, Null, mask};
@@ -64,18 +63,4 @@ pub fn nulls<F: Flavor>(bytes: u8x32) -> u8x32
     ensures { result ≡ map (λ b. mask (is_null F.flavor b)) bytes }
 {
     mask::<F::Null>(bytes)
-}
-
-/// Returns FF for each byte that completes C0 80 if it follows C0, and 7F for the others. In CESU-8
-/// no byte does.
-#[inline(always)]
-pub fn second_of_null<F: Flavor>(bytes: u8x32) -> u8x32
-    ensures { result ≡ map (λ b. if null_at F.flavor 0xC0 b then 0xFF else 0x7F) bytes }
-{
-    if F::has_long_null() {
-        return bytes
-            .simd_eq(u8x32::splat(0x80))
-            .select(u8x32::splat(0xFF), u8x32::splat(0x7F));
-    }
-    u8x32::splat(0x7F)
 }
