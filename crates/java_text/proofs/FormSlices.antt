@@ -16,22 +16,23 @@ use Rattle.java_text.specs.declared.fault.WriteSliceFault.{WriteSliceFault}
 use Rattle.java_text.specs.declared.fault.WriteSliceFault.TheVariants.{TooLong, TooShort}
 use Rattle.java_text.proofs.Forms.{drop_after_two}
 
--- A form has the count's two bytes more than the MUTF-8.
+-- A form has two bytes more than the text's MUTF-8, those of the count.
 pub length_of_form : (text : List ℕ) → length (java_form text) ≡ 2 + mutf8_len text
 unfolding java_form
 length_of_form text = omega arith
 
--- A part behind two bytes has as many as it is to have.
+-- If the buffer is long enough, the part of `room` bytes after its first two has this length.
 pub length_of_room : (old : List ℕ) (room : ℕ) → 2 + room ≤ length old → length (mid_of 2 room old) ≡ room
 length_of_room old room fits = length-take-le room (drop 2 old) (omega (arith, length-drop 2 old))
 
--- Two bytes count a form's bytes, the high byte first.
+-- The two bytes of a length up to 65,535, the high byte first, are the count of a form.
 pub count_of : (len n : ℕ) → len ≡ n → n ≤ 65535 →
     (len / 0x100 % 0x100) ∷ (len % 0x100) ∷ [] ≡ (n / 0x100) ∷ (n % 0x100) ∷ []
 count_of len n same small =
     let high : len / 0x100 % 0x100 ≡ n / 0x100 = omega arith in λ i. high i ∷ (same i % 0x100) ∷ []
 
--- A count, and the MUTF-8 at the front of what follows it, are the form at the front.
+-- If the count is written to the first two bytes, and the MUTF-8 after them, the form stands at the
+-- start of the buffer.
 form_behind_count : (text old mid count : List ℕ) (len room : ℕ) → 2 ≤ length old → len ≤ length (mid_of 2 room old) → len ≡ mutf8_len text →
     mid ≡ encoding Mutf8 text ++ drop len (mid_of 2 room old) → count ≡ (mutf8_len text / 0x100) ∷ (mutf8_len text % 0x100) ∷ [] →
     StandsAtFront (java_form text) (2 + len) old (count ++ drop 2 (put_mid 2 room old mid))
@@ -49,7 +50,7 @@ form_behind_count text (a ∷ b ∷ old) mid count len room fits inside len_is m
           (append_assoc mutf8 (drop len (take room old)) (drop room old) ∙ ap (λ bs. mutf8 ++ bs) (behind ∙ sym (drop_after_two a b len old))),
     )
 
--- The same with another name for its end.
+-- Like `form_behind_count`, with a name for the offset at which the form ends.
 pub form_at_front : (text old mid count : List ℕ) (len room end : ℕ) → end ≡ 2 + len → 2 ≤ length old → len ≤ length (mid_of 2 room old) →
     len ≡ mutf8_len text → mid ≡ encoding Mutf8 text ++ drop len (mid_of 2 room old) →
     count ≡ (mutf8_len text / 0x100) ∷ (mutf8_len text % 0x100) ∷ [] →
@@ -58,11 +59,11 @@ form_at_front text old mid count len room end end_is fits inside len_is mid_is c
     subst (λ n. StandsAtFront (java_form text) n old (count ++ drop 2 (put_mid 2 room old mid))) (sym end_is)
     (form_behind_count text old mid count len room fits inside len_is mid_is count_is)
 
--- A part that is put back leaves the buffer as it was.
+-- Writing a part of the buffer back to its place leaves the buffer unchanged.
 pub put_back : (old mid : List ℕ) (room : ℕ) → mid ≡ mid_of 2 room old → put_mid 2 room old mid ≡ old
 put_back old mid room same = ap (put_mid 2 room old) same ∙ put_same 2 room old
 
--- A form that stands at the front is written,
+-- A call that leaves a form at the start of the buffer keeps its promise.
 pub form_written : (text old new : List ℕ) (len : ℕ) → HasForm text → length (java_form text) ≤ length old →
     StandsAtFront (java_form text) len old new → WritesForm text (Ok len) old new
 form_written text old new len has fits stands = record {
@@ -73,7 +74,8 @@ form_written text old new len has fits stands = record {
   unchanged = tt;
 }
 
--- and where none fits, it is told why.
+-- If no form fits, a call that returns the reason and leaves the buffer unchanged keeps its
+-- promise.
 pub form_misfits : (text old new : List ℕ) (len : ℕ) (fault : WriteSliceFault) → len ≡ mutf8_len text → (HasForm text → length old < length (java_form text)) →
     (65535 < len → fault ≡ TooLong len) → (len ≤ 65535 → fault ≡ TooShort (2 + len)) → new ≡ old →
     WritesForm text (Err fault) old new
@@ -85,13 +87,13 @@ form_misfits text old new len fault len_is misfits long short same = record {
   unchanged = same;
 }
 
--- Two bytes count so few that each length of their lossy reading is told.
+-- The lossy reading of at most 65,535 bytes has a length that fits `usize`.
 pub never_too_long : LossyBound → (bytes old new : List ℕ) (fault : LossySliceFault) → length bytes ≤ 65535 → fault ≡ lossy.TooLong →
     WritesLossyReading (λ text. text ≡ reading Mutf8 bytes) (Err fault) old new → ⊥
 never_too_long bound bytes old new fault few told writes =
     let found = (subst (λ d. WritesLossyReading (λ text. text ≡ reading Mutf8 bytes) (Err d) old new) told writes).too_long.0 tt in
     omega (arith, bound Mutf8 bytes, ap (λ text. length (utf8 text)) found.1, found.2)
 
--- The counted bytes are so few.
+-- There are at most 65,535 counted bytes.
 pub few_counted : (bytes : List ℕ) → ((i : ℕ) → get_or bytes i 0 < 256) → length (counted bytes) ≤ 65535
 few_counted bytes small = omega (arith, small 0, small 1, length-take (count_in bytes) (drop 2 bytes))

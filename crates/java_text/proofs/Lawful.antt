@@ -7,7 +7,7 @@ use Rattle.java_text.specs.Form.{HasForm, java_form, BeginsWithForm}
 use Rattle.java_text.specs.Laws.{FormIsCut, OneForm, NoFormBeginsAnother, HaveForms, AreReadInTurn, Sequence, EmptyHasNone, OneMore, RestIsRead, NoneFollows, Bounds}
 use Rattle.java_text.proofs.Forms.{count_in_form, counted_in_form, rest_in_form, none_begins_truncated}
 
--- bytes that a form begins have its parts
+-- Bytes that begin with a form have its parts.
 pub form_is_cut_law : FormIsCut
 form_is_cut_law bytes text rest form = (
   (λ truncated. none_begins_truncated bytes truncated text rest form),
@@ -16,31 +16,31 @@ form_is_cut_law bytes text rest form = (
   sym (rest_in_form bytes text rest form),
 )
 
--- no form begins another, since one form at most begins bytes
+-- No form begins another, since bytes begin with at most one form.
 pub no_form_begins_another_law : OneForm → NoFormBeginsAnother
 no_form_begins_another_law one_form text other rest s f t g e =
     let same = one_form (java_form text) text [] (record { scalars = s; fits = f; bytes_are = sym (append-nil (java_form text)) })
     other rest (record { scalars = t; fits = g; bytes_are = e }) in
     (sym same.0, same.1)
 
--- a form has two bytes more than the MUTF-8 of its text
+-- A form has two bytes more than the MUTF-8 of its text.
 pub bounds_law : Bounds
 unfolding java_form
 bounds_law text f = (omega arith, omega arith, omega arith)
 
--- no form begins the empty input
+-- No form begins the empty input.
 pub empty_has_none_law : EmptyHasNone
 unfolding java_form
 empty_has_none_law text rest form = absurd (let e = form.bytes_are in cc)
 
--- a text after texts that have forms
+-- If each of some texts has a form, and one more has, all of them have.
 have_forms_more : (texts : List (List ℕ)) (text : List ℕ) → HaveForms texts → IsText text → HasForm text →
     HaveForms (texts ++ text ∷ [])
 have_forms_more [] text have is_text fits = (is_text, fits, tt)
 have_forms_more (first ∷ texts) text have is_text fits =
     (have.0, have.1, have_forms_more texts text have.2 is_text fits)
 
--- a form that begins the rest is one more
+-- If a form begins the rest, the bytes begin with one form more.
 pub one_more_law : OneMore
 one_more_law bytes texts rest text after so_far form =
     let done = flat_map java_form texts in
@@ -51,7 +51,7 @@ one_more_law bytes texts rest text after so_far form =
       bytes_are = so_far.bytes_are ∙ rw (forms, form.bytes_are) (sym (append_assoc done (java_form text) after));
     }
 
--- the first of some forms begins the bytes
+-- Bytes that begin with some forms begin with the first of them.
 first_begins : (text : List ℕ) (texts : List (List ℕ)) (rest : List ℕ) → HaveForms (text ∷ texts) →
     BeginsWithForm (flat_map java_form (text ∷ texts) ++ rest) text (flat_map java_form texts ++ rest)
 first_begins text texts rest have = record {
@@ -60,14 +60,14 @@ first_begins text texts rest have = record {
   bytes_are = append_assoc (java_form text) (flat_map java_form texts) rest;
 }
 
--- forms are read as their texts, and then what follows them
+-- Forms are read as their texts, and then the rest as its texts.
 read_on : (texts more : List (List ℕ)) (rest : List ℕ) → HaveForms texts → AreReadInTurn rest more →
     AreReadInTurn (flat_map java_form texts ++ rest) (texts ++ more)
 read_on [] more rest have read = read
 read_on (text ∷ texts) more rest have read =
     (flat_map java_form texts ++ rest, first_begins text texts rest have, read_on texts more rest have.2 read)
 
--- and as no others
+-- Whatever the bytes are read as begins with the texts of these forms.
 only_so : OneForm → (texts all : List (List ℕ)) (rest : List ℕ) → HaveForms texts →
     AreReadInTurn (flat_map java_form texts ++ rest) all →
     (more : List (List ℕ)) × (all ≡ texts ++ more) × AreReadInTurn rest more
@@ -80,14 +80,14 @@ only_so one_form (text ∷ texts) (other ∷ others) rest have read =
     let found = only_so one_form texts others rest have.2 (subst (λ bs. AreReadInTurn bs others) same.1 read.2) in
     (found.0, ap (λ t. t ∷ others) same.0 ∙ ap (λ ts. text ∷ ts) found.1, found.2)
 
--- bytes are read as their forms, and then as the rest is
+-- Bytes that begin with some forms are read as their texts, and then as the rest is read.
 pub rest_is_read_law : OneForm → RestIsRead
 rest_is_read_law one_form bytes texts rest so_far all = (
   (λ read. only_so one_form texts all rest so_far.have_forms (subst (λ bs. AreReadInTurn bs all) so_far.bytes_are read)),
   (λ found. rw (so_far.bytes_are, found.1) (read_on texts found.0 rest so_far.have_forms found.2)),
 )
 
--- so where no form begins the rest, nothing follows
+-- If no form begins the rest, the bytes are read as these texts alone.
 pub none_follows_law : OneForm → NoneFollows
 none_follows_law one_form bytes texts rest so_far none all =
     let read_so = rest_is_read_law one_form bytes texts rest so_far all in (
@@ -99,7 +99,7 @@ none_follows_law one_form bytes texts rest so_far none all =
     by [] same read = (same ∙ append-nil texts, read)
     by (first ∷ more) same read = absurd (none first read.0 read.1)
 
--- so forms in a row are read back as their texts and as no others
+-- Consecutive forms are read as their texts, and as no others.
 pub sequence_law : OneForm → Sequence
 sequence_law one_form texts have =
     let ends = none_follows_law one_form (flat_map java_form texts) texts []

@@ -1,4 +1,4 @@
--- Why a call returns no form or no text, and how the fault displays.
+-- Why a call returns no form or no text, and how the error displays.
 use Rattle.std.specs.Prelude.{ℕ, ⊤, List, codes, Result, IfErr}
 use Rattle.simd_cesu8.specs.declared.error.DecodeFault.{DecodeFault}
 use Rattle.simd_cesu8.specs.declared.error.DecodeFault.TheVariants as decoding
@@ -13,7 +13,7 @@ use Rattle.simd_cesu8.specs.declared.error.DecodeSliceFault.TheVariants as slice
 use Rattle.java_text.specs.declared.fault.ReadFault.{ReadFault}
 use Rattle.java_text.specs.declared.fault.ReadFault.TheVariants.{Truncated, Invalid, Memory}
 
--- How a fault displays.
+-- How an error displays.
 abbrev pub write_message_of : WriteFault → List ℕ
 write_message_of (writing.TooLong count) = codes "text is too long"
 write_message_of writing.Memory = codes "out of memory"
@@ -32,7 +32,7 @@ read_slice_message_of slice_reading.Truncated = codes "input is truncated"
 read_slice_message_of (slice_reading.Invalid error) = codes "invalid input"
 read_slice_message_of (slice_reading.TooShort count) = codes "buffer too short"
 
--- The fault for a fault of the decoder.
+-- The error for an error of the decoder.
 abbrev pub read_fault_of : DecodeFault → ReadFault
 read_fault_of (decoding.Invalid error) = Invalid error
 read_fault_of (decoding.Memory error) = Memory
@@ -41,17 +41,17 @@ abbrev pub read_slice_fault_of : DecodeSliceFault → ReadSliceFault
 read_slice_fault_of (slice_decoding.Invalid error) = slice_reading.Invalid error
 read_slice_fault_of (slice_decoding.TooShort fault) = slice_reading.TooShort fault.needed
 
--- If the fault is that the counted bytes have no text, the fact holds.
+-- If the error is `Invalid`, the fact holds.
 abbrev pub IfInvalid : ReadFault → Type 0 → Type 0
 IfInvalid (Invalid error) P = P
 IfInvalid other P = ⊤
 
--- If the fault is one of the input, the fact holds.
+-- If the error is one of the input, and not of memory, the fact holds.
 abbrev pub IfRefused : ReadFault → Type 0 → Type 0
 IfRefused Memory P = ⊤
 IfRefused other P = P
 
--- The same for a call.
+-- If the call returns such an error, the fact holds.
 abbrev pub OnInvalid : {T : Type 0} → Result T ReadFault → Type 0 → Type 0
 OnInvalid result P = IfErr result (λ fault. IfInvalid fault P)
 

@@ -8,7 +8,7 @@ use Rattle.simd_cesu8.specs.Encoding.{Mutf8, encoding}
 abbrev pub mutf8_len : List ℕ → ℕ
 mutf8_len text = length (encoding Mutf8 text)
 
--- Two bytes count up to 65,535, so a text with more bytes of MUTF-8 has no form. (Java,
+-- A count of two bytes is at most 65,535, so a text with more bytes of MUTF-8 has no form. (Java,
 -- DataOutput.writeUTF: "If this number is larger than 65535, then a UTFDataFormatException is
 -- thrown")
 abbrev pub HasForm : List ℕ → Type 0
@@ -19,13 +19,13 @@ HasForm text = mutf8_len text ≤ 65535
 unfoldable pub java_form : List ℕ → List ℕ
 java_form text = (mutf8_len text / 0x100) ∷ (mutf8_len text % 0x100) ∷ encoding Mutf8 text
 
--- The bytes are the form of the text, and then rest.
+-- The bytes are the form of the text, followed by rest.
 pub record BeginsWithForm (bytes text rest : List ℕ) : Type 0 where
   pub scalars : IsText text
   pub fits : HasForm text
   pub bytes_are : bytes ≡ java_form text ++ rest
 
--- The bytes are so in no other way.
+-- The bytes begin with no other form, and with no other rest.
 abbrev pub BeginsOnlyWithForm : List ℕ → List ℕ → List ℕ → Type 0
 BeginsOnlyWithForm bytes text rest =
     (other more : List ℕ) → BeginsWithForm bytes other more → (other ≡ text) × (more ≡ rest)
@@ -33,8 +33,8 @@ BeginsOnlyWithForm bytes text rest =
 abbrev pub NoFormBegins : List ℕ → Type 0
 NoFormBegins bytes = (text rest : List ℕ) → ¬ (BeginsWithForm bytes text rest)
 
--- What the bytes claim, whether or not a form begins them: the number in the first two, as many
--- bytes after those, and the rest.
+-- The parts that the count says, even if no form begins the bytes: the count in the first two
+-- bytes, as many bytes after these, and the rest.
 abbrev pub count_in : List ℕ → ℕ
 count_in bytes = 0x100 * slice_index bytes 0 + slice_index bytes 1
 
@@ -44,6 +44,6 @@ counted bytes = take (count_in bytes) (drop 2 bytes)
 abbrev pub rest_in : List ℕ → List ℕ
 rest_in bytes = drop (2 + count_in bytes) bytes
 
--- There are fewer than two bytes, or fewer after them than they count.
+-- There are fewer than two bytes, or fewer bytes after them than they count.
 abbrev pub IsTruncated : List ℕ → Type 0
 IsTruncated bytes = (length bytes < 2) ⊎ (length bytes < 2 + count_in bytes)

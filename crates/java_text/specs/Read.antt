@@ -9,7 +9,7 @@ use Rattle.simd_cesu8.specs.Cow.{answer_text}
 abbrev pub IfRead : {E : Type 0} → Result (CowText × Bor (List ℕ)) E → (List ℕ → List ℕ → Type 0) → Type 0
 IfRead result P = IfOk result (λ read. P (chars (answer_text read.0)) read.1.now)
 
--- The text alone, for the definitions about results that are texts.
+-- The result without the rest, for the definitions about results that are texts.
 abbrev pub text_of : {E : Type 0} → Result (CowText × Bor (List ℕ)) E → Result CowText E
 text_of (Ok read) = Ok read.0
 text_of (Err fault) = Err fault

@@ -16,9 +16,9 @@ use std::fmt::{Display, Formatter};
 /// It displays as `text is too long` or `out of memory`, whatever width is given.
 #[derive(Debug, Drop)]
 pub enum WriteFault {
-    /// The text has this many bytes of MUTF-8, and two bytes count at most 65,535.
+    /// The text's MUTF-8 has this many bytes, and a count of two bytes is at most 65,535.
     TooLong(usize),
-    /// A request for memory was refused.
+    /// Memory could not be allocated.
     Memory,
 }
 
@@ -30,7 +30,8 @@ impl From<AllocError> for WriteFault {
     }
 }
 
-/// So that `push(byte)?` works where a `WriteFault` is returned. The value is dropped.
+/// Lets a function that returns a `WriteFault` use `push(byte)?`. The value that was not pushed is
+/// dropped.
 impl<T: Drop> From<AllocFailed<T>> for WriteFault {
     ghost from_gives = { λ _ fault. fault ≡ writing.Memory };
 
@@ -60,11 +61,11 @@ impl Error for WriteFault {}
 /// given.
 #[derive(Debug, Drop)]
 pub enum ReadFault {
-    /// There are fewer than two bytes, or fewer after them than they count.
+    /// There are fewer than two bytes, or fewer bytes after them than they count.
     Truncated,
-    /// The counted bytes are the encoding of no text.
+    /// No text has the counted bytes as its encoding.
     Invalid(DecodingError),
-    /// A request for memory was refused.
+    /// Memory could not be allocated.
     Memory,
 }
 
@@ -76,7 +77,8 @@ impl From<AllocError> for ReadFault {
     }
 }
 
-/// So that `push(byte)?` works where a `ReadFault` is returned. The value is dropped.
+/// Lets a function that returns a `ReadFault` use `push(byte)?`. The value that was not pushed is
+/// dropped.
 impl<T: Drop> From<AllocFailed<T>> for ReadFault {
     ghost from_gives = { λ _ fault. fault ≡ reading.Memory };
 
@@ -117,7 +119,7 @@ impl Error for ReadFault {}
 /// It displays as `text is too long` or `buffer too short`, whatever width is given.
 #[derive(Clone, Copy, Debug, PartialEq, Eq)]
 pub enum WriteSliceFault {
-    /// The text has this many bytes of MUTF-8, and two bytes count at most 65,535.
+    /// The text's MUTF-8 has this many bytes, and a count of two bytes is at most 65,535.
     TooLong(usize),
     /// The buffer is shorter than the form, which has this many bytes.
     TooShort(usize),
@@ -146,7 +148,7 @@ impl Error for WriteSliceFault {}
 pub enum ReadSliceFault {
     /// There are fewer than two bytes, or fewer after them than they count.
     Truncated,
-    /// The counted bytes are the encoding of no text.
+    /// No text has the counted bytes as its encoding.
     Invalid(DecodingError),
     /// The buffer is shorter than the text, whose UTF-8 has this many bytes.
     TooShort(usize),

@@ -14,7 +14,7 @@ ghost use Rattle.java_text.specs.Laws.{
   Bounds,
 };
 
-/// If bytes begin with a form, they are two bytes that count, as many bytes that are the MUTF-8 of
+/// If bytes begin with a form, they are a count of two bytes, as many bytes that are the MUTF-8 of
 /// its text, and the rest. Conversely, bytes with these parts begin with the form. So a reader may
 /// split a form by hand.
 pub fn parts()
@@ -22,31 +22,31 @@ pub fn parts()
     ensures joined { PartsAreForm }
 {}
 
-/// Bytes begin with the form of at most one text, and have one rest.
+/// Bytes begin with the form of at most one text, and with at most one rest after it.
 pub fn one_form()
     ensures { OneForm }
 {
     simd_cesu8::laws::round_trip();
 }
 
-/// No form begins another.
+/// No form is a proper prefix of another.
 pub fn no_form_begins_another()
     ensures { NoFormBeginsAnother }
 {
     one_form();
 }
 
-/// Forms in a row read back, one after another, as their texts and no others.
+/// Consecutive forms are read, one after another, as their texts and as no others.
 pub fn sequence()
     ensures { Sequence }
 {
     one_form();
 }
 
-/// For a reader that reads one form after another. If a form begins what is left of the bytes, they
-/// begin with one form more. Bytes that begin with some forms are read as their texts, and then as
-/// what is left is read. So if no form begins what is left, they are read as these texts alone, and
-/// only if it is empty. No form begins the empty input.
+/// For a reader that reads one form after another. Suppose that bytes begin with some forms, and a
+/// rest follows. If a form begins the rest, the bytes begin with one form more. The bytes are read
+/// as the texts of these forms, and then as the rest is read. So if no form begins the rest, they
+/// are read as these texts alone, and only if the rest is empty. No form begins the empty input.
 pub fn in_turn()
     ensures one_more { OneMore }
     ensures rest { RestIsRead }

@@ -1,10 +1,9 @@
-//! Java strings with their length in front, as `DataOutput.writeUTF` writes them and
-//! `DataInput.readUTF` reads them. Here such a string is called the form of the text. It begins
-//! with the count in two bytes, the high byte first: the length in bytes of the text's Modified
-//! UTF-8 (MUTF-8). This MUTF-8 follows.
+//! Java strings after their length, as `DataOutput.writeUTF` writes them and `DataInput.readUTF`
+//! reads them. Here this is called the form of a text. It begins with the count in two bytes, the
+//! high byte first: the length in bytes of the text's Modified UTF-8 (MUTF-8). This MUTF-8 follows.
 //!
-//! A form ends where its count says, so forms can follow one another. [`read_utf`] returns the text
-//! and the input after the form, where the next one begins. A text with more than 65,535 bytes of
+//! The count says where a form ends, so forms can follow one another. [`read_utf`] returns the text
+//! and the input after the form, where the next one begins. Text with more than 65,535 bytes of
 //! MUTF-8 has no form.
 //!
 //! | you have | you want | call |
@@ -28,7 +27,8 @@
 //! assert!(rt; rest.is_empty());
 //! ```
 //!
-//! [`mutf8::valid_up_to`] finds the first damage in a form, behind the count:
+//! [`mutf8::valid_up_to`] finds the first damage in the MUTF-8 of a form, which is after the two
+//! bytes of the count:
 //!
 //! ```rust
 //! let damaged = b"\0\x04a\xC0\x80\0".as_slice();
@@ -57,13 +57,13 @@ use simd_cesu8::implementation::decode_mutf8_front_to_slice;
 use simd_cesu8::{CowText, DecodeSliceFault, LossySliceFault, mutf8};
 use std::alloc::Global;
 
-/// Appends the form of a text (Java's `DataOutput.writeUTF`) to the buffer.
+/// Appends the form of a string (Java's `DataOutput.writeUTF`) to the buffer.
 ///
-/// It returns `TooLong`, with the length in bytes, exactly where the text's MUTF-8 has more than
-/// 65,535 bytes. It tests this first, and this takes no memory. If the capacity is too small, it
-/// makes one request before it writes, and returns `Memory` if that is refused. The buffer then
-/// grows by a factor, as with `Vec::push`, so that many short texts need few requests. After an
-/// error the buffer is as before.
+/// It returns `TooLong`, with the length in bytes, exactly when the string's MUTF-8 has more than
+/// 65,535 bytes. It tests this first, before it allocates. If the capacity is too small, it
+/// allocates once, before it writes, and returns `Memory` if that fails. The buffer then grows by a
+/// factor, as with `Vec::push`, so appending many short strings allocates rarely. After an error
+/// the buffer is unchanged.
 ///
 /// ```rust
 /// let mut buf = Vec::new(alloc);
@@ -79,7 +79,7 @@ pub fn write_utf(text: &str, buf: &mut Vec<u8>) -> Result<(), WriteFault>
     ensures err { OnErr result (buf.new.items ≡ buf.old.items) }
     ensures err_capacity { OnErr result (vec_capacity buf.new ≡ vec_capacity buf.old) }
 
-    // With enough capacity it makes no request, and a text with a form is written.
+    // With enough capacity the call allocates nothing, and succeeds if the string has a form.
     ensures room { HasForm (chars text.now)
         → vec_len buf.old + length (java_form (chars text.now)) ≤ vec_capacity buf.old
         → IsOk result }
@@ -104,17 +104,17 @@ pub fn write_utf(text: &str, buf: &mut Vec<u8>) -> Result<(), WriteFault>
     Ok(())
 }
 
-/// Reads the form that begins the bytes (Java's `DataInput.readUTF`), strictly: returns its text,
-/// and the bytes after the form, which are always a part of the input.
+/// Reads the form at the start of the bytes (Java's `DataInput.readUTF`) strictly. It returns the
+/// form's text, and the bytes after the form, which are always a part of the input.
 ///
-/// It returns `Truncated` exactly where there are fewer than two bytes, or fewer after them than
-/// they count. It tests this first, and this takes no memory. Then it reads the counted bytes as
+/// It returns `Truncated` exactly when there are fewer than two bytes, or fewer bytes after them
+/// than they count. It tests this first, before it allocates. Then it decodes the counted bytes as
 /// [`mutf8::decode_strict`] does. It returns `Invalid` if they are the encoding of no text; Java's
 /// own reader accepts some of these.
 ///
-/// The text borrows the counted bytes where they are its UTF-8, and then takes no memory. Otherwise
-/// the call makes one request for as many bytes as are counted, and returns `Memory` if it is
-/// refused.
+/// The text borrows the counted bytes if they are its UTF-8, and then nothing is allocated.
+/// Otherwise the call allocates as many bytes as are counted, once, and returns `Memory` if that
+/// fails.
 ///
 /// ```rust
 /// let (text, rest) = java_text::read_utf(alloc, b"\0\x01AB")?;
@@ -141,19 +141,20 @@ pub fn read_utf(alloc: Global, bytes: &[u8]) -> Result<(CowText<'_>, &[u8]), Rea
     ensures capacity { BuildsTextOfCapacity (text_of result) (count_in bytes.now) }
 {
     let (counted, rest) = split_counted(bytes)?;
-    // Other forms mostly follow, so a short text is read with the bytes after it.
+    // Usually other forms follow, so a short string is decoded with a vector that includes bytes
+    // after it.
     let text = mutf8::decode_strict_front(alloc, &bytes[2..], counted.len())?;
     Ok((text, rest))
 }
 
-/// Reads the count that begins the bytes (Java's `DataInput.readUTF`), and as many bytes of MUTF-8,
-/// which may be damaged. It returns each encoded character in them, with one U+FFFD for each byte
-/// in none, and the bytes after the counted ones.
+/// Reads the count at the start of the bytes (Java's `DataInput.readUTF`), and as many bytes of
+/// MUTF-8, which may be damaged. It returns each encoded character in them, U+FFFD for each byte
+/// that is not part of one, and the bytes after the counted ones.
 ///
 /// It returns `Truncated` as [`read_utf`] does, since no text can replace missing bytes. It never
-/// returns `Invalid`. The text borrows as [`mutf8::decode_lossy_strict`] does, and then takes no
-/// memory. Otherwise the call makes one request for exactly the text's length in bytes, and returns
-/// `Memory` if it is refused.
+/// returns `Invalid`. The text borrows as [`mutf8::decode_lossy_strict`] does, and then nothing is
+/// allocated. Otherwise the call allocates exactly the text's length in bytes, once, and returns
+/// `Memory` if that fails.
 ///
 /// ```rust
 /// let (text, rest) = java_text::read_utf_lossy(alloc, b"\0\x02\xC2AB")?;
@@ -179,16 +180,16 @@ pub fn read_utf_lossy(alloc: Global, bytes: &[u8]) -> Result<(CowText<'_>, &[u8]
     Ok((mutf8::decode_lossy_strict(alloc, counted)?, rest))
 }
 
-/// The most bytes that two bytes can count.
+/// The largest number that two bytes can hold.
 const MOST_COUNTED: usize = 65_535;
 
-/// Writes the form of a text (Java's `DataOutput.writeUTF`) to the caller's buffer.
+/// Writes the form of a string (Java's `DataOutput.writeUTF`) to the caller's buffer.
 ///
-/// It returns how many bytes it wrote at the front of the buffer; the rest stays as it was. It
-/// returns `TooLong`, with the length in bytes, exactly where the text's MUTF-8 has more than
-/// 65,535 bytes. It returns `TooShort`, with the length of the form in bytes, exactly where there
-/// is a form and it is longer than the buffer. After an error the whole buffer stays as it was. It
-/// requests no memory.
+/// It returns the number of bytes that it wrote to the start of the buffer, and leaves the rest
+/// unchanged. It returns `TooLong`, with the length in bytes, exactly when the string's MUTF-8 has
+/// more than 65,535 bytes. It returns `TooShort`, with the length of the form in bytes, exactly
+/// when there is a form and it is longer than the buffer. After an error the whole buffer is
+/// unchanged. The call allocates nothing.
 ///
 /// ```rust
 /// let mut buf = [0xEE; 6];
@@ -201,7 +202,7 @@ pub fn write_utf_to_slice(text: &str, buf: &mut [u8]) -> Result<usize, WriteSlic
     if buf.len() < 2 {
         return Err(misfit(mutf8::encoded_len(text)));
     }
-    // Offer no more of the buffer than two bytes can count.
+    // Longer MUTF-8 has no form, so it must not be written even if the buffer has capacity for it.
     let end = buf.len().min(2 + MOST_COUNTED);
     match mutf8::encode_to_slice(text, &mut buf[2..end]) {
         Ok(length) => {
@@ -212,7 +213,7 @@ pub fn write_utf_to_slice(text: &str, buf: &mut [u8]) -> Result<usize, WriteSlic
     }
 }
 
-/// Returns why the form of a text with so many bytes of MUTF-8 does not fit.
+/// Returns why a form is not written, for a string whose MUTF-8 has `length` bytes.
 fn misfit(length: usize) -> WriteSliceFault
     ensures too_long { MOST_COUNTED < length → result ≡ WriteSliceFault.TooLong length }
     ensures too_short { length ≤ MOST_COUNTED → result ≡ WriteSliceFault.TooShort (2 + length) }
@@ -223,14 +224,14 @@ fn misfit(length: usize) -> WriteSliceFault
     WriteSliceFault::TooShort(2 + length)
 }
 
-/// Reads the form that begins the bytes (Java's `DataInput.readUTF`), strictly, and writes the
+/// Reads the form at the start of the bytes (Java's `DataInput.readUTF`) strictly, and writes the
 /// UTF-8 of its text to the caller's buffer.
 ///
-/// It returns how many bytes it wrote at the front of the buffer, and the bytes after the form. The
-/// rest of the buffer stays as it was. It returns `Truncated` as [`read_utf`] does. Otherwise it
-/// returns `Invalid` exactly where the counted bytes are the encoding of no text. It returns
-/// `TooShort`, with the needed length in bytes, where the text is longer than the buffer. After an
-/// error the whole buffer stays as it was. It requests no memory.
+/// It returns the number of bytes that it wrote to the start of the buffer, and the bytes after the
+/// form. It leaves the rest of the buffer unchanged. It returns `Truncated` as [`read_utf`] does.
+/// Otherwise it returns `Invalid` exactly when the counted bytes are the encoding of no text. It
+/// returns `TooShort`, with the needed length in bytes, if the text is longer than the buffer.
+/// After an error the whole buffer is unchanged. The call allocates nothing.
 ///
 /// ```rust
 /// let mut buf = [0xEE; 3];
@@ -251,8 +252,8 @@ pub fn read_utf_to_slice<'b>(
     Ok((decode_counted(bytes, counted, buf)?, rest))
 }
 
-/// Decodes the counted bytes strictly to the caller's buffer. Other forms mostly follow them, so a
-/// short text is read with the bytes after it.
+/// Decodes the counted bytes strictly to the caller's buffer. Usually other forms follow, so a
+/// short string is decoded with a vector that includes bytes after it.
 #[inline(always)]
 fn decode_counted(bytes: &[u8], part: &[u8], buf: &mut [u8]) -> Result<usize, DecodeSliceFault>
     requires counted { part.now ≡ counted bytes.now }
@@ -262,14 +263,15 @@ fn decode_counted(bytes: &[u8], part: &[u8], buf: &mut [u8]) -> Result<usize, De
     decode_mutf8_front_to_slice(&bytes[2..], part.len(), buf)
 }
 
-/// Reads the count that begins the bytes (Java's `DataInput.readUTF`), and as many bytes of MUTF-8,
-/// which may be damaged. It writes the UTF-8 of the text that [`read_utf_lossy`] returns to the
-/// caller's buffer.
+/// Reads the count at the start of the bytes (Java's `DataInput.readUTF`), and as many bytes of
+/// MUTF-8, which may be damaged. It writes the UTF-8 of the text that [`read_utf_lossy`] returns to
+/// the caller's buffer.
 ///
-/// It returns how many bytes it wrote at the front of the buffer, and the bytes after the counted
-/// ones. The rest of the buffer stays as it was. It returns `Truncated` as [`read_utf`] does, and
-/// `TooShort`, with the needed length in bytes, where the text is longer than the buffer. It never
-/// returns `Invalid`. After an error the whole buffer stays as it was. It requests no memory.
+/// It returns the number of bytes that it wrote to the start of the buffer, and the bytes after the
+/// counted ones. It leaves the rest of the buffer unchanged. It returns `Truncated` as [`read_utf`]
+/// does, and `TooShort`, with the needed length in bytes, if the text is longer than the buffer. It
+/// never returns `Invalid`. After an error the whole buffer is unchanged. The call allocates
+/// nothing.
 ///
 /// ```rust
 /// let mut buf = [0xEE; 4];
@@ -296,7 +298,7 @@ pub fn read_utf_lossy_to_slice<'b>(
     }
 }
 
-/// Returns the bytes that the first two count, and those after them.
+/// Splits the bytes after the count: returns as many as are counted, and those after them.
 #[inline]
 fn split_counted(bytes: &[u8]) -> Result<(&[u8], &[u8]), ReadFault>
     ensures counted { IfOk result (λ parts. parts.0.now ≡ counted bytes.now) }

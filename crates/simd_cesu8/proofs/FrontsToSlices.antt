@@ -1,4 +1,4 @@
--- What a call says of bytes in which nothing changes, and which it copies to a caller's buffer.
+-- What a call promises if it copies unchanged bytes to a caller's buffer.
 use Rattle.std.proofs.Common.{ℕ, ◌^◌, ◌<◌, ◌≤◌, List, Ok, length}
 use Rattle.std.specs.Str.{chars}
 use Rattle.simd_cesu8.specs.Encoding.{Flavor}
@@ -9,7 +9,8 @@ use Rattle.cesu8_text.proofs.reading.KeptTexts.{encoding_texts}
 use Rattle.cesu8_bytes.specs.declared.strictness.Strictness.TheVariants.{Strict}
 use Rattle.cesu8_decode.proofs.chunks.SliceReadings.{answer_put, only_kept}
 
--- They are their text's UTF-8, and so it is written.
+-- Copying unchanged bytes to the start of the buffer writes their strict reading, since they are
+-- its UTF-8.
 pub unchanged_written : (f : Flavor) (bytes : List ℕ) (len : ℕ) (old new : List ℕ) → IsUnchangedUtf8 f bytes → length bytes < 2 ^ 64 →
     length bytes ≤ length old → StandsAtFront bytes len old new → WritesReading (IsStrictReading f bytes) (Ok len) old new
 unchanged_written f bytes len old new unchanged small room stands =

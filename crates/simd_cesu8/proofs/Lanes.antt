@@ -1,4 +1,4 @@
--- Vectors of which the first lanes are those of one vector, and the others those of another.
+-- A vector whose first lanes are those of one vector, and whose other lanes are those of another.
 use Rattle.std.proofs.Common.{◌≡◌, ℕ, zero, suc, ◌+◌, ◌≤◌, List, [], ◌∷◌, ◌++◌, refl, sym, ap, ◌∙◌, arith, length, map, take, drop, replicate, w8, ltb}
 use Rattle.std.specs.List.{range_with_len}
 use Rattle.std.proofs.lemmas.Bool.Decides.{nat_tests}
@@ -8,7 +8,7 @@ use Rattle.std.proofs.lemmas.Simd.{tops_compared, zip2_splat}
 use lib.Lanes.{sel_l, zip2, top, put_chunk}
 use Rattle.cesu8_bytes.proofs.lists.Lanes.{below}
 
--- Where no lane's number is below the bound, the other vector is chosen;
+-- If no lane has a number below the bound, the selection is the other vector.
 none_before : (bound at : ℕ) (xs ys : List ℕ) → length xs ≡ length ys → bound ≤ at →
     sel_l (map (λ i. ltb i bound) (range_with_len at (length xs))) xs ys ≡ ys
 none_before bound at [] [] long le = refl
@@ -16,7 +16,8 @@ none_before bound at [] (y ∷ ys) long le = absurd (omega arith)
 none_before bound at (x ∷ xs) [] long le = absurd (omega arith)
 none_before bound at (x ∷ xs) (y ∷ ys) long le = grind (arith, nat_tests, common_steps, none_before bound (at + 1) xs ys)
 
--- and else the first vector in the lanes below it.
+-- Otherwise the lanes with numbers below the bound are those of the first vector, and the rest are
+-- those of the other.
 chosen_before : (len at bound : ℕ) (xs ys : List ℕ) → length xs ≡ length ys → bound ≡ at + len →
     sel_l (map (λ i. ltb i bound) (range_with_len at (length xs))) xs ys ≡ take len xs ++ drop len ys
 chosen_before zero at bound xs ys long is = none_before bound at xs ys long (omega arith)
@@ -26,7 +27,8 @@ chosen_before (suc len) at bound (x ∷ xs) [] long is = absurd (omega arith)
 chosen_before (suc len) at bound (x ∷ xs) (y ∷ ys) long is =
     grind (arith, nat_tests, common_steps, chosen_before len (at + 1) bound xs ys)
 
--- So it is by a comparison of the numbers of the lanes.
+-- Comparing the vector 0, 1, 2, .. with `len` in each lane selects the first `len` lanes of one
+-- vector, and then those of the other.
 pub first_lanes : (size len : ℕ) (xs ys : List ℕ) → length xs ≡ size → length ys ≡ size →
     sel_l (map (top 7) (zip2 below (range_with_len 0 size) (replicate size len))) xs ys ≡ take len xs ++ drop len ys
 first_lanes size len xs ys long_xs long_ys =
@@ -36,14 +38,15 @@ first_lanes size len xs ys long_xs long_ys =
     ∙ ap (λ n. map (λ i. ltb i len) (range_with_len 0 n)) (sym long_xs))
     ∙ chosen_before len 0 len xs ys (long_xs ∙ sym long_ys) (omega arith)
 
--- A list is stored in its own place.
+-- Storing the start of a list over itself leaves the list unchanged.
 stored_again : (size : ℕ) (xs : List ℕ) → put_chunk 0 xs (take size xs) ≡ xs
 stored_again zero [] = refl
 stored_again zero (x ∷ xs) = refl
 stored_again (suc size) [] = refl
 stored_again (suc size) (x ∷ xs) = ap (λ rest. x ∷ rest) (stored_again size xs)
 
--- The first of so many bytes, and then those that stand there, are stored as those bytes alone.
+-- Storing `size` bytes, of which only the first `len` differ from what is there, writes those `len`
+-- bytes alone.
 pub front_stored : (len size : ℕ) (bytes old : List ℕ) → len ≤ size → size ≤ length bytes → size ≤ length old →
     put_chunk 0 old (take len (take size bytes) ++ drop len (take size old)) ≡ take len bytes ++ drop len old
 front_stored zero size bytes old le many room = stored_again size old

@@ -10,14 +10,15 @@ use Rattle.simd_cesu8.specs.declared.cow.CowText.{CowText}
 use Rattle.simd_cesu8.specs.declared.cow.CowBytes.{CowBytes}
 use Rattle.simd_cesu8.specs.declared.error.DecodeFault.{DecodeFault}
 
--- `encode`: the encoding of a text, borrowed where it is the text's UTF-8.
+-- `encode`: the encoding of a string, borrowed exactly when it is the string's UTF-8.
 pub record Encodes {E : Type 0} (f : Flavor) (utf8 : List ℕ) (result : Result CowBytes E) : Type 0 where
   pub encoding : IfBytes result (λ bytes. bytes ≡ encoding_of f (chars utf8))
   pub borrowed : BorrowsBytesWhere result (λ bytes. bytes ≡ utf8)
   pub succeeds : ¬ (NeedsEncoding f (chars utf8)) → IsOk result
   pub capacity : BuildsBytesOfCapacity result (length (encoding_of f (chars utf8)))
 
--- A call that decodes: bytes that are kept are borrowed, and others are read, or refused.
+-- A call that decodes. `keeps` says that the bytes are borrowed, and `reads` which text they have.
+-- If they have none, the call returns an error.
 pub record DecodesAs (keeps : Type 0) (reads : List ℕ → Type 0) (bytes : List ℕ) (result : Result CowText DecodeFault) : Type 0 where
   pub text : IfText result (λ text. reads text)
   pub invalid : OnInvalid result ((text : List ℕ) → ¬ (reads text))
@@ -26,12 +27,12 @@ pub record DecodesAs (keeps : Type 0) (reads : List ℕ → Type 0) (bytes : Lis
   pub succeeds : keeps → IsOk result
   pub capacity : BuildsTextOfCapacity result (length bytes)
 
--- One of the strict reading: it borrows where its UTF-8 is the bytes.
+-- A call that decodes strictly. It borrows exactly when the bytes are the text's UTF-8.
 abbrev pub DecodesStrictly : Flavor → List ℕ → Result CowText DecodeFault → Type 0
 DecodesStrictly f bytes = DecodesAs (IsUnchangedUtf8 f bytes) (IsStrictReading f bytes) bytes
 
--- A call that decodes and replaces what is ill-formed. If its text is the lossy reading alone, so is
--- its length.
+-- A call that decodes, and replaces each ill-formed byte. If its only text is the lossy reading,
+-- the text's length is that of the lossy reading.
 pub record DecodesLossily {E : Type 0} (f : Flavor) (keeps : Type 0) (reads : List ℕ → Type 0) (bytes : List ℕ) (result : Result CowText E) : Type 0 where
   pub reading : IfText result (λ text. reads text)
   pub text_length : ((text : List ℕ) → reads text → text ≡ reading_of f bytes) → AnswersTextOfLength result (lossy_length f bytes)

@@ -5,6 +5,6 @@ use Rattle.simd_cesu8.specs.Encoding.{encoding}
 use Rattle.simd_cesu8.specs.Internal.{flavor_of}
 use Rattle.simd_cesu8.specs.declared.counted_text.CountedText.{CountedText}
 
--- The encoding of the counted text.
+-- The encoding of the string.
 abbrev pub counted_encoding : CountedText → List ℕ
 counted_encoding counted = encoding (flavor_of counted.flavor) (chars counted.text.now)

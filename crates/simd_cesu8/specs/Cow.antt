@@ -8,12 +8,12 @@ use Rattle.simd_cesu8.specs.declared.cow.CowText.TheVariants as texts
 use Rattle.simd_cesu8.specs.declared.cow.CowBytes.{CowBytes}
 use Rattle.simd_cesu8.specs.declared.cow.CowBytes.TheVariants.{Borrowed, Owned}
 
--- The bytes of a result, in either case.
+-- The bytes of a result, borrowed or built.
 abbrev pub answer_bytes : CowBytes → List ℕ
 answer_bytes (Borrowed bytes) = bytes.now
 answer_bytes (Owned bytes) = bytes.items
 
--- Whether it is the case `Borrowed`.
+-- Whether a result is borrowed.
 abbrev pub borrows_bytes : CowBytes → Bool
 borrows_bytes (Borrowed bytes) = true
 borrows_bytes (Owned bytes) = false
@@ -23,7 +23,7 @@ abbrev pub IfOwned : CowBytes → (Vec ℕ → Type 0) → Type 0
 IfOwned (Borrowed bytes) P = ⊤
 IfOwned (Owned bytes) P = P bytes
 
--- The text of a result as its UTF-8, in either case.
+-- The UTF-8 of a result's text, borrowed or built.
 abbrev pub answer_text : CowText → List ℕ
 answer_text (texts.Borrowed text) = text.now
 answer_text (texts.Owned text) = string_bytes text
@@ -40,7 +40,7 @@ IfOwnedText (texts.Owned text) P = P text
 abbrev pub IfBytes : {E : Type 0} → Result CowBytes E → (List ℕ → Type 0) → Type 0
 IfBytes result P = IfOk result (λ answer. P (answer_bytes answer))
 
--- If the call succeeds, it borrows exactly where the fact holds of the bytes.
+-- If the call succeeds, it borrows exactly when the fact holds of the bytes.
 abbrev pub BorrowsBytesWhere : {E : Type 0} → Result CowBytes E → (List ℕ → Type 0) → Type 0
 BorrowsBytesWhere result P = IfOk result (λ answer. IsTrue (borrows_bytes answer) ↔ P (answer_bytes answer))
 
@@ -52,11 +52,11 @@ BuildsBytesOfCapacity result n = IfOk result (λ answer. IfOwned answer (λ byte
 abbrev pub IfText : {E : Type 0} → Result CowText E → (List ℕ → Type 0) → Type 0
 IfText result P = IfOk result (λ answer. P (chars (answer_text answer)))
 
--- If the call succeeds, it borrows exactly where the fact holds of the text's UTF-8.
+-- If the call succeeds, it borrows exactly when the fact holds of the text's UTF-8.
 abbrev pub BorrowsTextWhere : {E : Type 0} → Result CowText E → (List ℕ → Type 0) → Type 0
 BorrowsTextWhere result P = IfOk result (λ answer. IsTrue (borrows_text answer) ↔ P (answer_text answer))
 
--- If the call built a text, it has exactly this capacity.
+-- If the call built a string, it has exactly this capacity.
 abbrev pub BuildsTextOfCapacity : {E : Type 0} → Result CowText E → ℕ → Type 0
 BuildsTextOfCapacity result n = IfOk result (λ answer. IfOwnedText answer (λ text. string_capacity text ≡ n))
 

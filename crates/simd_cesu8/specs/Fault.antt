@@ -1,4 +1,4 @@
--- Why there is no text, and how the fault displays.
+-- Why a call returns no text, and how the error displays.
 use Rattle.std.specs.Prelude.{ℕ, ⊤, List, codes, Result, IfErr}
 use Rattle.simd_cesu8.specs.declared.error.DecodeFault.{DecodeFault}
 use Rattle.simd_cesu8.specs.declared.error.DecodeFault.TheVariants.{Invalid, Memory}
@@ -7,7 +7,7 @@ use Rattle.simd_cesu8.specs.declared.error.DecodeSliceFault.TheVariants as stric
 use Rattle.simd_cesu8.specs.declared.error.LossySliceFault.{LossySliceFault}
 use Rattle.simd_cesu8.specs.declared.error.LossySliceFault.TheVariants as lossy
 
--- How a fault displays.
+-- How an error displays.
 abbrev pub message_of : DecodeFault → List ℕ
 message_of (Invalid error) = codes "invalid input"
 message_of (Memory error) = codes "out of memory"
@@ -20,11 +20,11 @@ abbrev pub lossy_message_of : LossySliceFault → List ℕ
 lossy_message_of lossy.TooLong = codes "text is too long"
 lossy_message_of (lossy.TooShort fault) = codes "buffer too short"
 
--- If the fault is that the input has no text, the fact holds.
+-- If the error is `Invalid`, the fact holds.
 abbrev pub IfInvalid : DecodeFault → Type 0 → Type 0
 IfInvalid (Invalid error) P = P
 IfInvalid (Memory error) P = ⊤
 
--- If the call returns that fault, the fact holds.
+-- If the call returns `Invalid`, the fact holds.
 abbrev pub OnInvalid : {T : Type 0} → Result T DecodeFault → Type 0 → Type 0
 OnInvalid result P = IfErr result (λ fault. IfInvalid fault P)

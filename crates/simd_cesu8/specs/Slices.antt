@@ -10,11 +10,11 @@ use Rattle.simd_cesu8.specs.declared.error.LossySliceFault.TheVariants as lossy
 -- The result is written to the buffer, or the buffer is too short.
 pub record WritesAnswer (answer : List ℕ) (result : Result ℕ TooShort) (old new : List ℕ) : Type 0 where
   pub written : IfOk result (λ len. StandsAtFront answer len old new)
-  -- It is written exactly where it fits.
+  -- The call succeeds exactly when the result fits.
   pub fits : IsOk result ↔ length answer ≤ length old
-  -- Otherwise the call returns its exact length,
+  -- Otherwise the call returns the result's exact length,
   pub needed : IfErr result (λ fault. fault.needed ≡ length answer)
-  -- and the whole buffer stays.
+  -- and the whole buffer is unchanged.
   pub unchanged : OnErr result (new ≡ old)
 
 -- The call returns `Invalid`.
@@ -27,16 +27,17 @@ abbrev pub IfTooShort : Result ℕ DecodeSliceFault → (ℕ → Type 0) → Typ
 IfTooShort (Err (strict.TooShort fault)) P = P fault.needed
 IfTooShort other P = ⊤
 
--- The text of the bytes is written to the buffer, or they have none, or the buffer is too short.
+-- The text of the bytes is written to the buffer, or the bytes have no text, or the buffer is too
+-- short.
 pub record WritesReading (IsReading : List ℕ → Type 0) (result : Result ℕ DecodeSliceFault) (old new : List ℕ) : Type 0 where
   pub written : IfOk result (λ len. ReadingAtFront IsReading len old new)
-  -- It is written exactly where there is one and it fits.
+  -- The call succeeds exactly when the bytes have a text that fits.
   pub fits : IsOk result ↔ ReadsAtLength IsReading (λ len. len ≤ length old)
-  -- The call returns `Invalid` exactly where there is none.
+  -- The call returns `Invalid` exactly when the bytes have no text.
   pub invalid : IsInvalid result ↔ ((text : List ℕ) → ¬ (IsReading text))
-  -- Otherwise the call returns its exact length.
+  -- If the buffer is too short, the call returns the text's exact length.
   pub needed : IfTooShort result (λ needed. ReadsAtLength IsReading (λ len. needed ≡ len))
-  -- After an error the whole buffer stays.
+  -- After an error the whole buffer is unchanged.
   pub unchanged : OnErr result (new ≡ old)
 
 -- The length of the text does not fit `usize`.
@@ -53,11 +54,11 @@ IfLossyTooShort other P = ⊤
 -- is too short.
 pub record WritesLossyReading (IsReading : List ℕ → Type 0) (result : Result ℕ LossySliceFault) (old new : List ℕ) : Type 0 where
   pub written : IfOk result (λ len. ReadingAtFront IsReading len old new)
-  -- It is written exactly where it fits.
+  -- The call succeeds exactly when the text fits.
   pub fits : IsOk result ↔ ReadsAtLength IsReading (λ len. len ≤ length old)
-  -- The call returns `TooLong` exactly where the length does not fit `usize`.
+  -- The call returns `TooLong` exactly when the length does not fit `usize`.
   pub too_long : IsTooLong result ↔ ReadsAtLength IsReading (λ len. 2 ^ 64 ≤ len)
-  -- Otherwise the call returns its exact length.
+  -- If the buffer is too short, the call returns the text's exact length.
   pub needed : IfLossyTooShort result (λ needed. ReadsAtLength IsReading (λ len. needed ≡ len))
-  -- After an error the whole buffer stays.
+  -- After an error the whole buffer is unchanged.
   pub unchanged : OnErr result (new ≡ old)

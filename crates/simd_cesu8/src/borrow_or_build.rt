@@ -1,8 +1,10 @@
-//! The calls for both flavors: each borrows if no byte changes, and builds otherwise.
+//! The calls for both flavors. Each borrows the input if no byte changes, and builds the result
+//! otherwise.
 //!
-//! Decoding begins with the front, the characters that are the same in UTF-8. A call borrows if it
-//! keeps all bytes, and else what stands behind the front decides. What it takes is a type,
-//! `Lenient` or `EncodingAlone`. In `decode_strict_front` one vector first shows short ASCII.
+//! Decoding first finds how many bytes at the start are the same in UTF-8. A call borrows if these
+//! are all bytes, and otherwise decodes the rest. The mode is a type parameter: `EncodingAlone`
+//! accepts only the encoding, and `Lenient` also UTF-8 as a whole. `decode_strict_front` has a fast
+//! path for short ASCII, with one vector.
 
 ghost use Rattle.std.specs.Prelude.{◌↔◌, IsTrue, take};
 ghost use Rattle.std.specs.Str.{chars};
@@ -30,8 +32,8 @@ pub fn encode<F: Flavor>(alloc: Global, value: &str) -> Result<CowBytes<'_>, All
     Ok(CowBytes::Owned(encoded))
 }
 
-/// Returns whether the encoding differs from the UTF-8. It is not inlined, so that `encode` is small
-/// enough to be inlined by its callers.
+/// Returns whether the encoding differs from the UTF-8. It is not inlined, so that `encode` is
+/// small enough for its callers to inline.
 #[inline(never)]
 fn is_changed<F: Flavor>(value: &str) -> bool
     ensures { IsTrue result ↔ NeedsEncoding F.flavor (chars value.now) }
@@ -39,7 +41,7 @@ fn is_changed<F: Flavor>(value: &str) -> bool
     needs_encoded::<F>(value)
 }
 
-/// Decodes what a call of this kind takes.
+/// Decodes bytes in the mode `A`, and borrows them if they are the text's UTF-8.
 #[inline(always)]
 pub fn decode_as<F: Flavor, A: Accepts>(
     alloc: Global,
@@ -70,8 +72,8 @@ pub fn decode_strict_front<F: Flavor>(
     decode_strict_by_call::<F>(alloc, front)
 }
 
-/// Makes the call below. The room for its result is cleared at the start of the function that makes
-/// it. Inlined, that is here, and behind the look at the front, which so clears nothing.
+/// Calls `decode_strict_called`. It is split off so that the fast path skips the zeroing of the
+/// result slot: an inlined function zeroes the slot at its own start, which is after the fast path.
 #[inline(always)]
 fn decode_strict_by_call<F: Flavor>(alloc: Global, bytes: &[u8]) -> Result<CowText<'_>, DecodeFault>
     ensures { DecodesStrictly F.flavor bytes.now result }
@@ -79,7 +81,7 @@ fn decode_strict_by_call<F: Flavor>(alloc: Global, bytes: &[u8]) -> Result<CowTe
     decode_strict_called::<F>(alloc, bytes)
 }
 
-/// Returns the strict reading. It is not inlined, so that the look at the front stays small.
+/// Decodes the bytes strictly. It is not inlined, to keep the code of the fast path small.
 #[inline(never)]
 fn decode_strict_called<F: Flavor>(alloc: Global, bytes: &[u8]) -> Result<CowText<'_>, DecodeFault>
     ensures { DecodesStrictly F.flavor bytes.now result }
@@ -87,7 +89,7 @@ fn decode_strict_called<F: Flavor>(alloc: Global, bytes: &[u8]) -> Result<CowTex
     decode_as::<F, EncodingAlone>(alloc, bytes)
 }
 
-/// Decodes what a call of this kind takes, and replaces what is ill-formed.
+/// Like `decode_as`, but replaces each ill-formed byte by U+FFFD.
 #[inline(always)]
 pub fn decode_lossy_as<F: Flavor, A: Accepts>(
     alloc: Global,

@@ -1,4 +1,4 @@
-//! A text with the length of its encoding, for formats that write the length in front.
+//! A string with the length of its encoding, for formats that write the length first.
 
 ghost use Rattle.std.specs.Prelude.{◌≡◌, length};
 ghost use Rattle.std.specs.Str.{chars};
@@ -9,9 +9,9 @@ use crate::internal::value::Flavor;
 use crate::internal::{Cesu8Flavor, Mutf8Flavor, encode_into};
 use std::alloc::{AllocError, Global};
 
-/// A text with the length of its encoding, for formats that write the length in front. The text is
-/// counted once: [`encoded_len`](CountedText::encoded_len) returns the length, and
-/// [`encode_into`](CountedText::encode_into) does not count again.
+/// A string with the length of its encoding, for formats that write the length first. The length is
+/// computed only once: [`encoded_len`](CountedText::encoded_len) returns it, and
+/// [`encode_into`](CountedText::encode_into) uses it.
 ///
 /// ```rust
 /// let counted = simd_cesu8::mutf8::counted("a\0");
@@ -54,9 +54,9 @@ impl<'a> CountedText<'a> {
         self.len
     }
 
-    /// Appends the encoding to the buffer, as `encode_into` of the text does. It makes one request
-    /// if the capacity is too small, and returns `AllocError` if that is refused; the buffer is
-    /// then as before.
+    /// Appends the encoding to the buffer, as the function `encode_into` does. If the capacity is
+    /// too small, it allocates once, before it writes. It returns `AllocError` if that fails, and
+    /// leaves the buffer unchanged.
     ///
     /// ```rust
     /// let mut buf = Vec::new(alloc);

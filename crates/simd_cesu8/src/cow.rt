@@ -1,4 +1,4 @@
-//! Results that borrow from the input where they can.
+//! Results that borrow from the input if they can.
 
 use crate::internal;
 use std::alloc::{AllocError, Global};
@@ -31,7 +31,7 @@ impl<'a> CowBytes<'a> {
         }
     }
 
-    /// Returns whether this is the case `Borrowed`.
+    /// Returns whether the bytes are borrowed from the input.
     ///
     /// ```rust
     /// assert!(rt; simd_cesu8::encode(alloc, "a")?.is_borrowed());
@@ -42,11 +42,11 @@ impl<'a> CowBytes<'a> {
         matches!(self, CowBytes::Borrowed(_))
     }
 
-    /// Returns the bytes as a `Vec`: the one that was built, or a copy of what was borrowed.
+    /// Returns the bytes as a `Vec`: the one that was built, or a copy of the borrowed bytes.
     ///
-    /// A copy makes one request for the result's length in bytes, and none if that is 0. Otherwise
-    /// the call takes no memory. If the request is refused, it returns `AllocError`; the caller
-    /// still has the input that was borrowed.
+    /// A copy allocates its length in bytes, once, or nothing if that is 0. The call returns
+    /// `AllocError` if that fails; the caller still has the input that was borrowed. Bytes that
+    /// were built are returned without an allocation.
     ///
     /// ```rust
     /// let bytes = simd_cesu8::encode(alloc, "\u{205}")?.into_vec(alloc)?;
@@ -67,7 +67,7 @@ impl<'a> CowBytes<'a> {
     }
 }
 
-/// A text that is borrowed from the input if none of its bytes changes, and owned otherwise.
+/// Text that is borrowed from the input if none of its bytes changes, and owned otherwise.
 #[derive(Drop)]
 pub enum CowText<'a> {
     /// The input's own bytes, which are UTF-8.
@@ -96,7 +96,7 @@ impl<'a> CowText<'a> {
         }
     }
 
-    /// Returns whether this is the case `Borrowed`.
+    /// Returns whether the text is borrowed from the input.
     ///
     /// ```rust
     /// assert!(rt; simd_cesu8::decode_strict(alloc, b"a")?.is_borrowed());
@@ -107,11 +107,11 @@ impl<'a> CowText<'a> {
         matches!(self, CowText::Borrowed(_))
     }
 
-    /// Returns the text as a `String`: the one that was built, or a copy of what was borrowed.
+    /// Returns the text as a `String`: the one that was built, or a copy of the borrowed text.
     ///
-    /// A copy makes one request for the text's length in bytes, and none if that is 0. Otherwise
-    /// the call takes no memory. If the request is refused, it returns `AllocError`; the caller
-    /// still has the input that was borrowed.
+    /// A copy allocates the text's length in bytes, once, or nothing if that is 0. The call returns
+    /// `AllocError` if that fails; the caller still has the input that was borrowed. Text that was
+    /// built is returned without an allocation.
     ///
     /// ```rust
     /// let text = simd_cesu8::decode_strict(alloc, b"a")?.into_string(alloc)?;

@@ -70,9 +70,9 @@ impl Error for DecodingError {}
 /// ```
 #[derive(Debug, Drop)]
 pub enum DecodeFault {
-    /// The input has no text.
+    /// No text has the input as its encoding.
     Invalid(DecodingError),
-    /// A request for memory was refused.
+    /// Memory could not be allocated.
     Memory(AllocError),
 }
 
@@ -91,7 +91,7 @@ impl Display for DecodeFault {
 
 impl Error for DecodeFault {}
 
-/// The caller's buffer is shorter than the result, whose length this has.
+/// The caller's buffer is shorter than the result. The error holds the result's length.
 ///
 /// It displays as `buffer too short`, whatever width is given.
 ///
@@ -151,7 +151,7 @@ impl Error for TooShort {}
 /// ```
 #[derive(Clone, Copy, Debug, PartialEq, Eq)]
 pub enum DecodeSliceFault {
-    /// The input has no text.
+    /// No text has the input as its encoding.
     Invalid(DecodingError),
     /// The buffer is shorter than the text.
     TooShort(TooShort),
@@ -172,7 +172,7 @@ impl Display for DecodeSliceFault {
 
 impl Error for DecodeSliceFault {}
 
-/// Why a call that decodes bytes, maybe damaged, writes no text to the caller's buffer.
+/// Why a call that decodes bytes that may be damaged writes no text to the caller's buffer.
 ///
 /// It displays as `text is too long` or `buffer too short`, whatever width is given.
 ///

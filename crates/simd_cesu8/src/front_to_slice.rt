@@ -1,8 +1,10 @@
-//! Decodes the bytes at the front of a slice to a caller's buffer, strictly: for strings that follow
-//! one another, most of which are short ASCII.
+//! Decodes a string at the start of a slice to a caller's buffer, strictly. It is for consecutive
+//! strings, most of which are short ASCII.
 //!
-//! One vector of the input shows whether they are. It is stored with the bytes that the buffer has
-//! after them, so the rest of the buffer stays, and no branch depends on their length.
+//! The fast path loads 64 bytes of the input as one vector. If the string's bytes in it are
+//! unchanged ASCII, it replaces the first `len` lanes of the buffer's first 64 bytes by them, and
+//! stores these 64 bytes. So the rest of the buffer is unchanged, and no branch depends on the
+//! string's length.
 
 ghost use Rattle.std.specs.Prelude.{◌≡◌, ◌++◌, ◌≤◌, false, IsTrue, length, take, drop};
 ghost use Rattle.simd_cesu8.specs.Class.{IsUnchangedUtf8};
@@ -14,17 +16,18 @@ use crate::internal;
 use crate::internal::{EncodingAlone, Flavor, begins_with_unchanged_ascii};
 use std::simd::prelude::*;
 
-/// The bytes of a vector.
+/// The length of a vector, in bytes.
 const LANES: usize = 64;
 
-/// The numbers of its lanes.
+/// The number of each lane.
 const NUMBERS: [u8; LANES] = [
     0, 1, 2, 3, 4, 5, 6, 7, 8, 9, 10, 11, 12, 13, 14, 15, 16, 17, 18, 19, 20, 21, 22, 23, 24, 25,
     26, 27, 28, 29, 30, 31, 32, 33, 34, 35, 36, 37, 38, 39, 40, 41, 42, 43, 44, 45, 46, 47, 48, 49,
     50, 51, 52, 53, 54, 55, 56, 57, 58, 59, 60, 61, 62, 63,
 ];
 
-/// Writes the strict reading of the first `len` bytes, or of all if there are fewer.
+/// Decodes the first `len` bytes strictly, or all bytes if there are fewer, and writes the text's
+/// UTF-8 to the buffer.
 #[inline(always)]
 pub fn decode_strict_front_to_slice<F: Flavor>(
     bytes: &[u8],
@@ -40,8 +43,8 @@ pub fn decode_strict_front_to_slice<F: Flavor>(
     decode_by_call::<F>(&bytes[..len], buf)
 }
 
-/// Copies the first `len` bytes to the front of the buffer, and returns true, if one vector shows
-/// that they are ASCII that does not change, and the buffer has room for it.
+/// Fast path: if one vector shows that the first `len` bytes are unchanged ASCII, and the buffer
+/// has at least 64 bytes, copies them to the start of the buffer and returns true.
 #[inline(always)]
 fn copy_unchanged_ascii<F: Flavor>(bytes: &[u8], len: usize, buf: &mut [u8]) -> bool
     ensures unchanged { IsTrue result → IsUnchangedUtf8 F.flavor (take len bytes.now) }
@@ -60,7 +63,7 @@ fn copy_unchanged_ascii<F: Flavor>(bytes: &[u8], len: usize, buf: &mut [u8]) -> 
     true
 }
 
-/// Returns the first `len` lanes of one vector, and then those of the other.
+/// Returns the first `len` lanes of `first`, and then the remaining lanes of `other`.
 #[inline(always)]
 fn join_lanes(first: u8x64, len: u8, other: u8x64) -> u8x64
     ensures { result ≡ take len first ++ drop len other }
@@ -70,8 +73,8 @@ fn join_lanes(first: u8x64, len: u8, other: u8x64) -> u8x64
         .select(first, other)
 }
 
-/// Makes the call below. The room for its result is cleared at the start of the function that makes
-/// it. Inlined, that is here, and after the look at the front, which so clears nothing.
+/// Calls `decode_called`. It is split off so that the fast path skips the zeroing of the result
+/// slot: an inlined function zeroes the slot at its own start, which is after the fast path.
 #[inline(always)]
 fn decode_by_call<F: Flavor>(bytes: &[u8], buf: &mut [u8]) -> Result<usize, DecodeSliceFault>
     ensures { WritesReading (IsStrictReading F.flavor bytes.now) result buf.old buf.new }
@@ -79,7 +82,8 @@ fn decode_by_call<F: Flavor>(bytes: &[u8], buf: &mut [u8]) -> Result<usize, Deco
     decode_called::<F>(bytes, buf)
 }
 
-/// Writes the strict reading. It is not inlined, so that the look at the front stays small.
+/// Decodes the bytes strictly to the buffer. It is not inlined, to keep the code of the fast path
+/// small.
 #[inline(never)]
 fn decode_called<F: Flavor>(bytes: &[u8], buf: &mut [u8]) -> Result<usize, DecodeSliceFault>
     ensures { WritesReading (IsStrictReading F.flavor bytes.now) result buf.old buf.new }

@@ -1,6 +1,6 @@
-//! What the crates of this repository above this one use beside its calls: the kernels, which find
-//! a byte that encoding changes, the test for UTF-8, and what reads strings that follow one another
-//! to a caller's buffer. Their names may change.
+//! What other crates of this repository use beside the public calls: the kernels, which find a byte
+//! that encoding changes, the test for UTF-8, and a call that decodes one of several consecutive
+//! strings to a caller's buffer. These names may change.
 
 ghost use Rattle.std.specs.Prelude.{◌≡◌, IfSome, IfNone, IsUtf8, take};
 ghost use Rattle.simd_cesu8.specs.Encoding.{Mutf8};
@@ -12,8 +12,8 @@ use crate::front_to_slice;
 use crate::internal::{Cesu8Flavor, Mutf8Flavor, is_short_unchanged_ascii, is_utf8, known_text};
 pub use cesu8_bytes::implementation::{active, fallback, simd, word};
 
-/// Returns the bytes as a text if they are UTF-8, as the calls that decode test them. It requests
-/// no memory.
+/// Returns the bytes as a string if they are UTF-8. It tests them as the calls that decode do, and
+/// allocates nothing.
 ///
 /// ```rust
 /// use simd_cesu8::implementation;
@@ -26,7 +26,7 @@ pub fn text_of(bytes: &[u8]) -> Option<&str>
     ensures some { IfSome result (λ text. text.now ≡ bytes.now) }
     ensures none { IfNone result (¬ (IsUtf8 bytes.now)) }
 {
-    // In CESU-8 no ASCII changes.
+    // CESU-8 changes no ASCII.
     if is_short_unchanged_ascii::<Cesu8Flavor>(bytes) {
         return Some(known_text(bytes));
     }
@@ -36,12 +36,12 @@ pub fn text_of(bytes: &[u8]) -> Option<&str>
     None
 }
 
-/// Decodes the MUTF-8 (Java's `DataInput`, without a length in front) at the front of the bytes
-/// strictly, and writes the UTF-8 of the text to the caller's buffer: does what
-/// `mutf8::decode_strict_to_slice` does with the first `len` bytes, or with all if there are fewer.
+/// Decodes a string in MUTF-8 (Java's `DataInput`, without its length) at the start of the bytes
+/// strictly, and writes the text's UTF-8 to the caller's buffer. It does for the first `len` bytes,
+/// or for all bytes if there are fewer, what `mutf8::decode_strict_to_slice` does.
 ///
-/// It may look at the bytes after them, which change no result, so the time for short ASCII depends
-/// less on its length.
+/// It may read the bytes after the string, which never change the result. So its time depends less
+/// on the length of short ASCII.
 ///
 /// ```rust
 /// use simd_cesu8::implementation::decode_mutf8_front_to_slice;

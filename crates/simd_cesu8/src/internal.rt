@@ -1,5 +1,6 @@
-//! The one door to the codec, for both flavors, but for the kernels in `implementation`: its
-//! options and its functions. What they return where there is no result becomes a fault here.
+//! All that this crate uses of the crates below it, for both flavors, except the kernels in
+//! `implementation`. A codec that finds no result returns an error of its own; the functions here
+//! return it as an error of this crate.
 
 ghost use Rattle.std.specs.Prelude.{◌≡◌, length, IfOk};
 ghost use Rattle.std.specs.Str.{chars};
@@ -31,8 +32,9 @@ pub use cesu8_decode::{decode_lossy, decoded_len, lossy_len};
 pub use cesu8_encode::{encode, encode_into};
 use std::alloc::Global;
 
-/// Returns the strict reading of bytes, after one request for their length. `front` tells where a
-/// test stopped: before are whole characters that are the same in UTF-8, but not all bytes.
+/// Decodes the bytes strictly, with one allocation of their length. `front` says where a check of
+/// the bytes stopped: the bytes before it are whole characters that are the same in UTF-8, and it
+/// is less than the input's length.
 #[inline(always)]
 pub fn decode_strict<F: Flavor>(
     alloc: Global,
@@ -52,7 +54,7 @@ pub fn decode_strict<F: Flavor>(
     }
 }
 
-/// Writes the encoding of a text to a caller's buffer, if it fits.
+/// Writes the encoding of a string to a caller's buffer, if it fits.
 #[inline(always)]
 pub fn encode_to_slice<F: Flavor>(value: &str, buf: &mut [u8]) -> Result<usize, TooShort>
     ensures { WritesAnswer (encoding F.flavor (chars value.now)) result buf.old buf.new }
@@ -63,7 +65,7 @@ pub fn encode_to_slice<F: Flavor>(value: &str, buf: &mut [u8]) -> Result<usize, 
     }
 }
 
-/// Writes what a call that takes `A` reads in the bytes to a caller's buffer, if it fits.
+/// Decodes bytes in the mode `A`, and writes the text's UTF-8 to a caller's buffer, if it fits.
 #[inline(always)]
 pub fn decode_to_slice<F: Flavor, A: Accepts>(
     bytes: &[u8],
@@ -83,7 +85,8 @@ pub fn decode_to_slice<F: Flavor, A: Accepts>(
     }
 }
 
-/// Does so, with U+FFFD for what is ill-formed: three bytes for one, so `usize` may be too small.
+/// Like `decode_to_slice`, but writes U+FFFD for each ill-formed byte. This makes three bytes of
+/// one, so the length may not fit `usize`.
 #[inline(always)]
 pub fn decode_lossy_to_slice<F: Flavor, A: Accepts>(
     bytes: &[u8],

@@ -17,7 +17,7 @@ pub fn chars()
     ensures same_bytes { SameBytes }
 {}
 
-/// The UTF-8 of a text is that of a `&str`, whose characters are the text.
+/// For each text there is a `&str` whose characters are the text and whose bytes are its UTF-8.
 pub fn utf8_of_text()
     ensures string { TextIsString }
     ensures chars { CharsOfUtf8 }
@@ -41,13 +41,13 @@ pub fn same_text()
     ensures { SameText }
 {}
 
-/// A text needs no encoding exactly where its encoding is its UTF-8.
+/// A text needs no encoding exactly when its encoding is its UTF-8.
 pub fn needs()
     ensures { Needs }
 {}
 
-/// A text needs no encoding exactly where its encoding is UTF-8 without a byte of the class. For a
-/// `&str` its own bytes decide it.
+/// A text needs no encoding exactly when its encoding is UTF-8 in which no byte changes. A string
+/// needs none exactly when none of its own bytes changes.
 pub fn unchanged()
     ensures encoding { UnchangedEncoding }
     ensures string { UnchangedString }
@@ -89,9 +89,10 @@ pub fn fewest()
     ensures { Fewest }
 {}
 
-/// The lossy reading of any bytes is a text, and that of an encoding is the encoded text. So a
-/// lossy reading that is encoded and read again stays the same. If bytes have a strict reading, it
-/// is the lossy reading. If the lossy reading has no U+FFFD, the bytes have a strict reading.
+/// The lossy reading of any bytes is a text, and that of an encoding is the encoded text. So
+/// encoding a lossy reading and reading it again returns it unchanged. If bytes have a strict
+/// reading, it is the lossy reading. If the lossy reading has no U+FFFD, the bytes have a strict
+/// reading.
 pub fn lossy()
     ensures text { ReadingIsText }
     ensures encoding { ReadingOfEncoding }
@@ -100,9 +101,9 @@ pub fn lossy()
     ensures undamaged { NothingReplaced }
 {}
 
-/// The lossy reading of a ++ b is that of a ++ that of b exactly where no encoded character begins
-/// in a and ends in b. The halves of a surrogate pair are ill-formed when apart, and one character
-/// when joined.
+/// The lossy reading of a ++ b is that of a ++ that of b exactly when no encoded character begins
+/// in a and ends in b. The halves of a surrogate pair are ill-formed apart, and one character when
+/// joined.
 pub fn split()
     ensures parts { Split }
     ensures halves_join { HalvesJoin }
@@ -120,20 +121,20 @@ pub fn middle()
     ensures { Middle }
 {}
 
-/// Dictionary order is a total order: of two lists exactly one holds, that the first is less, equal
-/// or greater; and it is transitive. `cmp` of two slices in std returns it.
+/// Dictionary order is a total order. Of two lists the first is either less, equal or greater, and
+/// the order is transitive. `cmp` of two slices in std returns it.
 pub fn dictionary_order()
     ensures one_of_three { Trichotomy }
     ensures transitive { Transitivity }
     ensures slices { SliceOrder }
 {}
 
-/// Two encodings compare, in dictionary order, as the UTF-16 code units of their texts do. In
-/// CESU-8 this holds always. In MUTF-8 it holds if neither text has U+0000, whose encoding is
-/// greater than that of "A".
+/// In dictionary order, two encodings compare as the UTF-16 code units of their texts do. In CESU-8
+/// this always holds. In MUTF-8 it holds if neither text has U+0000, whose encoding is greater than
+/// that of "A".
 ///
-/// It is not the order of scalar values, nor of UTF-8: the encoding of U+FFFF is greater than that
-/// of U+10000.
+/// This differs from the order of scalar values, which is also that of UTF-8: the encoding of
+/// U+FFFF is greater than that of U+10000.
 pub fn order()
     ensures cesu8 { OrderInCesu8 }
     ensures mutf8 { OrderInMutf8 }
@@ -141,8 +142,8 @@ pub fn order()
     ensures scalars_differ { ScalarsOutOfOrder }
 {}
 
-/// In std, `cmp` of two encodings in CESU-8 returns what `cmp` of the UTF-16 code units of their
-/// texts does. So a caller that compares or sorts keys needs no other law of order.
+/// In std, `cmp` of two encodings in CESU-8 returns the same as `cmp` of the UTF-16 code units of
+/// their texts. So a caller that compares or sorts keys needs no other law of order.
 pub fn key_order()
     ensures { KeyOrder }
 {}

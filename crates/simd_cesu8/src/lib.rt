@@ -1,13 +1,13 @@
 //! CESU-8 and Modified UTF-8 (MUTF-8).
 //!
-//! Both write each UTF-16 code unit of a text separately, as UTF-8 would write a number. So a
+//! Both write each UTF-16 code unit of a string separately, as UTF-8 would write a number. So a
 //! character with four bytes in UTF-8 becomes a surrogate pair of three bytes each. MUTF-8 also
 //! writes U+0000 as C0 80. CESU-8 is the one of Unicode Technical Report 26, MUTF-8 the one of
 //! Java's `DataInput`.
 //!
-//! A result borrows from the input exactly where its bytes are the input's bytes: each call says
-//! where that is. Otherwise it is built after one request for memory. If that is refused, the call
-//! returns `AllocError`, or `DecodeFault::Memory` where it can return `Invalid` too.
+//! A result borrows from the input exactly when its bytes are the input's bytes: each call says
+//! when that is. Otherwise the call allocates once. If the allocation fails, it returns
+//! `AllocError`, or `DecodeFault::Memory` if it can also return `Invalid`.
 //!
 //! | you have | you want | call |
 //! |---|---|---|
@@ -15,27 +15,27 @@
 //! | text | its encoding in your buffer, without an allocator | [`encode_to_slice`] |
 //! | text | whether its encoding differs from its UTF-8 | [`needs_encoded`] |
 //! | text | the length of its encoding | [`encoded_len`] |
-//! | text | its encoding with the length in front, counted once | [`counted`] |
-//! | text | how many UTF-16 code units it has | [`utf16_len`] |
-//! | two texts | their order by UTF-16 code units | [`compare_as_utf16`] |
+//! | text | its encoding after its length, counted once | [`counted`] |
+//! | text | its number of UTF-16 code units | [`utf16_len`] |
+//! | two strings | their order by UTF-16 code units | [`compare_as_utf16`] |
 //! | bytes of the encoding | their text, or an error | [`decode_strict`] |
 //! | bytes that begin with it, and its length | its text, or an error | [`decode_strict_front`] |
-//! | bytes of the encoding | the length of that text, or whether they are valid | [`decoded_len`] |
-//! | bytes of the encoding, perhaps damaged | where the first damage is | [`valid_up_to`] |
-//! | bytes of the encoding, perhaps damaged | a text in any case | [`decode_lossy_strict`] |
+//! | bytes of the encoding | their text's length, or whether they are valid | [`decoded_len`] |
+//! | bytes of the encoding, perhaps damaged | the offset of the first damage | [`valid_up_to`] |
+//! | bytes of the encoding, perhaps damaged | text, in any case | [`decode_lossy_strict`] |
 //! | bytes of the encoding, perhaps damaged | the length of that text | [`lossy_len`] |
 //! | bytes that are UTF-8, or else the encoding | their text, or an error | [`decode`] |
-//! | the same, perhaps damaged | a text in any case | [`decode_lossy`] |
+//! | bytes that are UTF-8 or the encoding, perhaps damaged | text, in any case | [`decode_lossy`] |
 //!
 //! Four calls write the UTF-8 of the text to your buffer, without an allocator:
 //! [`decode_strict_to_slice`], [`decode_lossy_strict_to_slice`], [`decode_to_slice`] and
 //! [`decode_lossy_to_slice`].
 //!
-//! The root's calls are for CESU-8, and those of [`mutf8`] for MUTF-8. Code units are the same in
-//! both, so the root alone has [`utf16_len`] and [`compare_as_utf16`].
+//! The root's calls are for CESU-8, and those of [`mutf8`] for MUTF-8. The UTF-16 code units are
+//! the same for both, so only the root has [`utf16_len`] and [`compare_as_utf16`].
 //!
-//! Use a strict call if the bytes must be the encoding: a lenient one accepts raw UTF-8, with
-//! characters of four bytes.
+//! Use a strict call if the bytes have to be the encoding: a lenient call also accepts UTF-8, in
+//! which a character may have four bytes.
 //!
 //! ```rust
 //! assert!(rt; simd_cesu8::encode(alloc, "caf\u{E9}")?.is_borrowed());
@@ -78,8 +78,8 @@ use crate::internal::{Cesu8Flavor, EncodingAlone, Lenient, encoded_len_by_need};
 use std::alloc::{AllocError, Global};
 use std::cmp::Ordering;
 
-/// Returns whether the CESU-8 of a text differs from its UTF-8: whether some scalar value is
-/// U+10000 or more. It requests no memory.
+/// Returns whether the CESU-8 of a string differs from its UTF-8. It differs if some scalar value
+/// is U+10000 or more. The call allocates nothing.
 ///
 /// ```rust
 /// assert!(rt; !simd_cesu8::needs_encoded("\u{20AC}"));
@@ -92,8 +92,8 @@ pub fn needs_encoded(value: &str) -> bool
     internal::needs_encoded::<Cesu8Flavor>(value)
 }
 
-/// Returns the length in bytes of the CESU-8 (Unicode Technical Report 26) of a text. It requests
-/// no memory.
+/// Returns the length in bytes of a string's CESU-8 (Unicode Technical Report 26). The call
+/// allocates nothing.
 ///
 /// ```rust
 /// assert_eq!(rt; simd_cesu8::encoded_len("a\u{10FFFF}"), 7);
@@ -104,8 +104,8 @@ pub fn encoded_len(value: &str) -> usize
     internal::encoded_len::<Cesu8Flavor>(value)
 }
 
-/// Returns the text with the length of its CESU-8 (Unicode Technical Report 26), for formats that
-/// write that length in front. The text is counted once. It requests no memory.
+/// Returns the string with the length of its CESU-8 (Unicode Technical Report 26), for formats that
+/// write this length first. The length is computed only once. The call allocates nothing.
 ///
 /// ```rust
 /// assert_eq!(rt; simd_cesu8::counted("a\u{10FFFF}").encoded_len(), 7);
@@ -120,8 +120,9 @@ pub fn counted(value: &str) -> CountedText<'_>
     )
 }
 
-/// Returns how many UTF-16 code units a text has, as Java's and JavaScript's strings count their
-/// length, JNI, dex files and many editors. A surrogate pair counts as two. It requests no memory.
+/// Returns the number of UTF-16 code units of a string. This is the length of a string in Java,
+/// JavaScript, JNI, dex files and many editors. A surrogate pair counts as two. The call allocates
+/// nothing.
 ///
 /// ```rust
 /// assert_eq!(rt; simd_cesu8::utf16_len("a\u{10FFFF}"), 3);
@@ -132,8 +133,9 @@ pub fn utf16_len(text: &str) -> usize
     internal::utf16_len(text)
 }
 
-/// Compares two texts by their UTF-16 code units, as Java's `compareTo`, JavaScript and the
-/// canonical JSON of RFC 8785 do. Their encodings in CESU-8 compare so too. It requests no memory.
+/// Compares two strings by their UTF-16 code units, as Java's `compareTo`, JavaScript and the
+/// canonical JSON of RFC 8785 do. Comparing their encodings in CESU-8 gives the same order. The
+/// call allocates nothing.
 ///
 /// ```rust
 /// use std::cmp::Ordering;
@@ -148,11 +150,11 @@ pub fn compare_as_utf16(text: &str, other: &str) -> Ordering
     internal::compare_as_utf16(text, other)
 }
 
-/// Encodes a text to CESU-8 (Unicode Technical Report 26).
+/// Encodes a string as CESU-8 (Unicode Technical Report 26).
 ///
-/// The result borrows the text's bytes where they are the encoding, and then takes no memory.
-/// Otherwise the call makes one request for exactly the encoding's length in bytes, and returns
-/// `AllocError` if it is refused.
+/// The result borrows the string's bytes if they are the encoding, and then nothing is allocated.
+/// Otherwise the call allocates exactly the encoding's length in bytes, once, and returns
+/// `AllocError` if that fails.
 ///
 /// ```rust
 /// let borrowed = simd_cesu8::encode(alloc, "\u{205}")?;
@@ -171,12 +173,12 @@ pub fn encode(alloc: Global, value: &str) -> Result<CowBytes<'_>, AllocError>
     borrow_or_build::encode::<Cesu8Flavor>(alloc, value)
 }
 
-/// Appends the CESU-8 (Unicode Technical Report 26) of a text to the buffer.
+/// Appends the CESU-8 (Unicode Technical Report 26) of a string to the buffer.
 ///
-/// If the capacity is too small, the call makes one request before it writes. The buffer then grows
-/// by a factor, as with `Vec::push`, so that many short texts need few requests. Otherwise, and for
-/// the empty text, it makes none. It returns `AllocError` if the request is refused, and the buffer
-/// is then as before.
+/// If the capacity is too small, the call allocates once, before it writes. The buffer then grows
+/// by a factor, as with `Vec::push`, so appending many short strings allocates rarely. If the
+/// capacity is enough, or the string is empty, nothing is allocated. The call returns `AllocError`
+/// if the allocation fails, and leaves the buffer unchanged.
 ///
 /// ```rust
 /// let mut buf = simd_cesu8::encode(alloc, "id=")?.into_vec(alloc)?;
@@ -188,7 +190,7 @@ pub fn encode_into(value: &str, buf: &mut Vec<u8>) -> Result<(), AllocError>
     ensures err { OnErr result (buf.new.items ≡ buf.old.items) }
     ensures err_capacity { OnErr result (vec_capacity buf.new ≡ vec_capacity buf.old) }
 
-    // With enough capacity it makes no request, and returns no error.
+    // With enough capacity the call allocates nothing, and returns no error.
     ensures room { vec_len buf.old + length (encoding Cesu8 (chars value.now))
         ≤ vec_capacity buf.old → IsOk result }
     ensures stays { vec_len buf.old + length (encoding Cesu8 (chars value.now))
@@ -202,14 +204,14 @@ pub fn encode_into(value: &str, buf: &mut Vec<u8>) -> Result<(), AllocError>
 /// Decodes CESU-8 (Unicode Technical Report 26) strictly: returns the text whose encoding the bytes
 /// are.
 ///
-/// The result borrows the bytes where they are the text's UTF-8, and then takes no memory.
-/// Otherwise the call makes one request for the input's length in bytes, and returns `Memory` if it
-/// is refused. It makes the request before it decodes, so `Memory` may come in place of `Invalid`.
+/// The result borrows the bytes if they are the text's UTF-8, and then nothing is allocated.
+/// Otherwise the call allocates the input's length in bytes, once, and returns `Memory` if that
+/// fails. It allocates before it decodes, so it may return `Memory` for input that is also invalid.
 ///
-/// The call returns `Invalid` if the bytes are the encoding of no text: they are damaged, or have
-/// an unpaired surrogate, an overlong form, or a UTF-8 form of four bytes.
+/// The call returns `Invalid` if no text has these bytes as its encoding: if they are damaged, or
+/// contain an unpaired surrogate, an overlong form, or a UTF-8 form of four bytes.
 ///
-/// [`decode`] accepts UTF-8 too, and [`decode_lossy_strict`] accepts any bytes.
+/// [`decode`] also accepts UTF-8, and [`decode_lossy_strict`] accepts any bytes.
 ///
 /// ```rust
 /// let built = simd_cesu8::decode_strict(alloc, b"\xED\xA0\xBD\xED\xB2\x96")?;
@@ -228,11 +230,12 @@ pub fn decode_strict(alloc: Global, bytes: &[u8]) -> Result<CowText<'_>, DecodeF
     decode_as::<Cesu8Flavor, EncodingAlone>(alloc, bytes)
 }
 
-/// Decodes the CESU-8 (Unicode Technical Report 26) at the front of the bytes strictly: returns
-/// what [`decode_strict`] does of the first `len` bytes, or of all where there are fewer.
+/// Decodes a string in CESU-8 (Unicode Technical Report 26) at the start of the bytes strictly:
+/// returns what [`decode_strict`] returns for the first `len` bytes, or for all bytes if there are
+/// fewer.
 ///
-/// It is for strings that follow one another. It may look at the bytes behind the front, which
-/// change no result, so the time for short ASCII depends less on its length.
+/// Use it for strings that follow one another. It may read the bytes after the string, which never
+/// change the result. So its time depends less on the length of short ASCII.
 ///
 /// ```rust
 /// let bytes = b"name\xED\xA0\xBD\xED\xB2\x96".as_slice();
@@ -256,16 +259,16 @@ pub fn decode_strict_front(
     borrow_or_build::decode_strict_front::<Cesu8Flavor>(alloc, bytes, len)
 }
 
-/// Decodes bytes that are UTF-8 as a whole, or else CESU-8 (Unicode Technical Report 26). It reads
-/// no input partly as one and partly as the other.
+/// Decodes bytes that are UTF-8 as a whole, or else CESU-8 (Unicode Technical Report 26). It never
+/// decodes one part of the input as UTF-8 and another as CESU-8.
 ///
-/// The result borrows bytes that are UTF-8, and then takes no memory. Otherwise the call makes one
-/// request for the input's length in bytes, and returns `Memory` if it is refused. It makes the
-/// request before it decodes, so `Memory` may come in place of `Invalid`.
+/// The result borrows bytes that are UTF-8, and then nothing is allocated. Otherwise the call
+/// allocates the input's length in bytes, once, and returns `Memory` if that fails. It allocates
+/// before it decodes, so it may return `Memory` for input that is also invalid.
 ///
 /// The call returns `Invalid` if the bytes are neither UTF-8 as a whole nor the encoding of a text.
 ///
-/// [`decode_strict`] accepts the encoding alone, and [`decode_lossy`] accepts any bytes.
+/// [`decode_strict`] accepts only the encoding, and [`decode_lossy`] accepts any bytes.
 ///
 /// ```rust
 /// let borrowed = simd_cesu8::decode(alloc, "\u{1F496}".as_bytes())?;
@@ -286,14 +289,14 @@ pub fn decode(alloc: Global, bytes: &[u8]) -> Result<CowText<'_>, DecodeFault>
     decode_as::<Cesu8Flavor, Lenient>(alloc, bytes)
 }
 
-/// Decodes CESU-8 (Unicode Technical Report 26) that may be damaged: returns each encoded character
-/// in the bytes, and one U+FFFD for each byte in none.
+/// Decodes CESU-8 (Unicode Technical Report 26) that may be damaged. It returns each encoded
+/// character, and U+FFFD for each byte that is not part of one.
 ///
-/// The result borrows the bytes where they are the text's UTF-8, and then takes no memory.
-/// Otherwise the call makes one request for exactly the text's length in bytes, [`lossy_len`]. It
-/// returns `AllocError` if that is refused or does not fit `usize`.
+/// The result borrows the bytes if they are the text's UTF-8, and then nothing is allocated.
+/// Otherwise the call allocates exactly the text's length in bytes, [`lossy_len`], once. It returns
+/// `AllocError` if that fails or if the length does not fit `usize`.
 ///
-/// [`decode_strict`] returns an error for damaged bytes, and [`decode_lossy`] accepts UTF-8 too.
+/// [`decode_strict`] returns an error for damaged bytes, and [`decode_lossy`] also accepts UTF-8.
 ///
 /// ```rust
 /// let text = simd_cesu8::decode_lossy_strict(alloc, b"\xE2\x82A")?;
@@ -312,15 +315,15 @@ pub fn decode_lossy_strict(alloc: Global, bytes: &[u8]) -> Result<CowText<'_>, A
 }
 
 /// Decodes bytes that are UTF-8 as a whole, or else CESU-8 (Unicode Technical Report 26) that may
-/// be damaged. For the latter it returns each encoded character, and one U+FFFD for each byte in
-/// none. It reads no input partly as UTF-8 and partly as the encoding.
+/// be damaged. For the latter it returns each encoded character, and U+FFFD for each byte that is
+/// not part of one. It never decodes one part of the input as UTF-8 and another as CESU-8.
 ///
-/// The result borrows bytes that are UTF-8, and then takes no memory. Otherwise the call makes one
-/// request for exactly the text's length in bytes, [`lossy_len`]. It returns `AllocError` if that
-/// is refused or does not fit `usize`.
+/// The result borrows bytes that are UTF-8, and then nothing is allocated. Otherwise the call
+/// allocates exactly the text's length in bytes, [`lossy_len`], once. It returns `AllocError` if
+/// that fails or if the length does not fit `usize`.
 ///
-/// [`decode`] returns an error for damaged bytes, and [`decode_lossy_strict`] accepts the encoding
-/// alone.
+/// [`decode`] returns an error for damaged bytes, and [`decode_lossy_strict`] does not accept
+/// UTF-8.
 ///
 /// ```rust
 /// let text = simd_cesu8::decode_lossy(alloc, b"\xF0\x9F\x92\x96\xFF")?;
@@ -337,11 +340,11 @@ pub fn decode_lossy(alloc: Global, bytes: &[u8]) -> Result<CowText<'_>, AllocErr
     decode_lossy_as::<Cesu8Flavor, Lenient>(alloc, bytes)
 }
 
-/// Returns the length in bytes of the text that [`decode_strict`] returns, which decodes CESU-8
-/// (Unicode Technical Report 26). It returns `None` exactly where the bytes are the encoding of no
-/// text, so it also tests whether they are valid. It requests no memory.
+/// Returns the length in bytes of the text that [`decode_strict`] returns for the same bytes, which
+/// are CESU-8 (Unicode Technical Report 26). It returns `None` exactly when the bytes are the
+/// encoding of no text, so it also tests whether they are valid. The call allocates nothing.
 ///
-/// [`lossy_len`] has a length for damaged bytes too.
+/// [`lossy_len`] returns a length for damaged bytes too.
 ///
 /// ```rust
 /// assert_eq!(rt; simd_cesu8::decoded_len(b"a\xED\xA0\xBD\xED\xB2\x96"), Some(5));
@@ -355,13 +358,13 @@ pub fn decoded_len(bytes: &[u8]) -> Option<usize>
     internal::decoded_len::<Cesu8Flavor>(bytes)
 }
 
-/// Returns the length in bytes of the text that [`decode_lossy_strict`] returns, which decodes
-/// CESU-8 (Unicode Technical Report 26) that may be damaged. Each byte in no encoded character
-/// counts as the three bytes of U+FFFD. It returns `None` if the length does not fit `usize`. It
-/// requests no memory.
+/// Returns the length in bytes of the text that [`decode_lossy_strict`] returns for the same bytes,
+/// which are CESU-8 (Unicode Technical Report 26) that may be damaged. Each byte that is not part
+/// of an encoded character counts as the three bytes of U+FFFD. The call returns `None` if the
+/// length does not fit `usize`. It allocates nothing.
 ///
-/// [`decode_lossy`] borrows bytes that are UTF-8 as a whole, so its text is then as long as the
-/// input.
+/// [`decode_lossy`] borrows bytes that are UTF-8 as a whole, so the text that it returns for them
+/// is as long as the input.
 ///
 /// ```rust
 /// assert_eq!(rt; simd_cesu8::lossy_len(b"\xE2\x82A"), Some(7));
@@ -374,12 +377,13 @@ pub fn lossy_len(bytes: &[u8]) -> Option<usize>
     internal::lossy_len::<Cesu8Flavor>(bytes)
 }
 
-/// Returns how many bytes at the front are whole encoded characters of CESU-8 (Unicode Technical
-/// Report 26): all where [`decode_strict`] returns a text, else those before the first byte for
-/// which [`decode_lossy_strict`] has U+FFFD. It stops soon after them. It requests no memory.
+/// Returns the length in bytes of the longest valid prefix: the bytes up to there are whole encoded
+/// characters of CESU-8 (Unicode Technical Report 26). This is the whole input if [`decode_strict`]
+/// returns a text. Otherwise it is the offset of the first byte that [`decode_lossy_strict`]
+/// replaces by U+FFFD. The call reads little beyond the prefix, and allocates nothing.
 ///
-/// The bytes from there on may begin with damage, or with a part of a character whose other bytes
-/// follow in the next read: of at most five bytes.
+/// Any bytes after the prefix begin with damage, or with at most five bytes of a character whose
+/// other bytes come with the next read.
 ///
 /// ```rust
 /// let bytes = b"id=\xED\xA0\xBD\xED\xB2\x96\xFF";
@@ -391,8 +395,8 @@ pub fn valid_up_to(bytes: &[u8]) -> usize
     ensures within { result ≤ length bytes.now }
     ensures valid { HasStrictReading Cesu8 (take result bytes.now) }
 
-    // If there are more bytes, no encoded character begins behind these, so no longer front has a
-    // strict reading, and the lossy reading replaces the byte there.
+    // If bytes follow the prefix, no encoded character begins there, no longer prefix has a strict
+    // reading, and the lossy reading replaces the next byte.
     ensures stops { result < length bytes.now → NoneBegins Cesu8 (drop result bytes.now) }
     ensures greatest { (n : ℕ) → result < n → n ≤ length bytes.now
         → HasNoStrictReading Cesu8 (take n bytes.now) }
@@ -401,18 +405,20 @@ pub fn valid_up_to(bytes: &[u8]) -> usize
     internal::valid_up_to::<Cesu8Flavor>(bytes)
 }
 
-/// Encodes a text to CESU-8 (Unicode Technical Report 26), in the caller's buffer.
+/// Encodes a string as CESU-8 (Unicode Technical Report 26) to the caller's buffer.
 ///
-/// It returns how many bytes it wrote at the front of the buffer; the rest stays as it was. If the
-/// buffer is too short, it returns [`TooShort`] with the needed length in bytes, and all of it
-/// stays as it was. So a call with an empty buffer reports the length. It requests no memory.
+/// It returns the number of bytes that it wrote to the start of the buffer, and leaves the rest
+/// unchanged. If the buffer is too short, it returns [`TooShort`] with the needed length in bytes,
+/// and leaves the whole buffer unchanged. So a call with an empty buffer returns the length. It
+/// allocates nothing.
 ///
 /// ```rust
 /// let mut buf = [0xEE; 8];
 /// assert_eq!(rt; simd_cesu8::encode_to_slice("\u{10400}", &mut buf)?, 6);
 /// assert_eq!(rt; buf.as_slice(), b"\xED\xA0\x81\xED\xB0\x80\xEE\xEE".as_slice());
 /// ```
-// Inlined, as each call on a slice is: a result returned by memory would be copied on its way.
+// Inlined, as all calls that write to a slice are: a result that is returned in memory would be
+// copied once more.
 #[inline(always)]
 pub fn encode_to_slice(value: &str, buf: &mut [u8]) -> Result<usize, TooShort>
     ensures { WritesAnswer (encoding Cesu8 (chars value.now)) result buf.old buf.new }
@@ -420,14 +426,14 @@ pub fn encode_to_slice(value: &str, buf: &mut [u8]) -> Result<usize, TooShort>
     internal::encode_to_slice::<Cesu8Flavor>(value, buf)
 }
 
-/// Decodes CESU-8 (Unicode Technical Report 26) strictly, and writes the UTF-8 of the text to the
+/// Decodes CESU-8 (Unicode Technical Report 26) strictly, and writes the text's UTF-8 to the
 /// caller's buffer.
 ///
-/// It returns how many bytes it wrote at the front of the buffer; the rest stays as it was. It
-/// returns `Invalid` exactly where the bytes are the encoding of no text. It returns `TooShort`,
-/// with the needed length in bytes, exactly where the text is longer than the buffer. After an
-/// error the whole buffer stays as it was. A text is never longer than its encoding. It requests no
-/// memory.
+/// It returns the number of bytes that it wrote to the start of the buffer, and leaves the rest
+/// unchanged. It returns `Invalid` exactly when the bytes are the encoding of no text. It returns
+/// `TooShort`, with the needed length in bytes, exactly when the text is longer than the buffer.
+/// After an error the whole buffer is unchanged. The text is never longer than its encoding. The
+/// call allocates nothing.
 ///
 /// ```rust
 /// let mut buf = [0xEE; 6];
@@ -442,13 +448,13 @@ pub fn decode_strict_to_slice(bytes: &[u8], buf: &mut [u8]) -> Result<usize, Dec
 }
 
 /// Decodes bytes that are UTF-8 as a whole, or else CESU-8 (Unicode Technical Report 26), and
-/// writes the UTF-8 of the text to the caller's buffer.
+/// writes the text's UTF-8 to the caller's buffer.
 ///
-/// It returns how many bytes it wrote at the front of the buffer; the rest stays as it was. It
-/// returns `Invalid` exactly where the bytes are neither UTF-8 as a whole nor the encoding of a
-/// text. It returns `TooShort`, with the needed length in bytes, exactly where the text is longer
-/// than the buffer. After an error the whole buffer stays as it was. A text is never longer than
-/// the input. It requests no memory.
+/// It returns the number of bytes that it wrote to the start of the buffer, and leaves the rest
+/// unchanged. It returns `Invalid` exactly when the bytes are neither UTF-8 as a whole nor the
+/// encoding of a text. It returns `TooShort`, with the needed length in bytes, exactly when the
+/// text is longer than the buffer. After an error the whole buffer is unchanged. The text is never
+/// longer than the input. The call allocates nothing.
 ///
 /// ```rust
 /// let mut buf = [0xEE; 6];
@@ -462,14 +468,14 @@ pub fn decode_to_slice(bytes: &[u8], buf: &mut [u8]) -> Result<usize, DecodeSlic
     internal::decode_to_slice::<Cesu8Flavor, Lenient>(bytes, buf)
 }
 
-/// Decodes CESU-8 (Unicode Technical Report 26) that may be damaged, and writes to the caller's
-/// buffer: the UTF-8 of each encoded character in the bytes, and U+FFFD for each byte in none.
+/// Decodes CESU-8 (Unicode Technical Report 26) that may be damaged. It writes the UTF-8 of each
+/// encoded character to the caller's buffer, and U+FFFD for each byte that is not part of one.
 ///
-/// It returns how many bytes it wrote at the front of the buffer; the rest stays as it was. It
-/// returns `TooShort`, with the needed length in bytes, exactly where the text is longer than the
-/// buffer. It returns `TooLong` instead if that length, [`lossy_len`], does not fit `usize`. After
-/// an error the whole buffer stays as it was. A text has at most three times as many bytes as the
-/// input. It requests no memory.
+/// It returns the number of bytes that it wrote to the start of the buffer, and leaves the rest
+/// unchanged. It returns `TooShort`, with the needed length in bytes, exactly when the text is
+/// longer than the buffer. It returns `TooLong` instead if that length, [`lossy_len`], does not fit
+/// `usize`. After an error the whole buffer is unchanged. The text is at most three times as long
+/// as the input. The call allocates nothing.
 ///
 /// ```rust
 /// let mut buf = [0xEE; 6];
@@ -485,13 +491,14 @@ pub fn decode_lossy_strict_to_slice(bytes: &[u8], buf: &mut [u8]) -> Result<usiz
 }
 
 /// Decodes bytes that are UTF-8 as a whole, or else CESU-8 (Unicode Technical Report 26) that may
-/// be damaged, and writes the UTF-8 of the text to the caller's buffer. For the latter it writes
-/// each encoded character, and U+FFFD for each byte in none.
+/// be damaged, and writes the text's UTF-8 to the caller's buffer. For the latter it writes each
+/// encoded character, and U+FFFD for each byte that is not part of one.
 ///
-/// It returns how many bytes it wrote at the front of the buffer; the rest stays as it was. It
-/// returns `TooShort`, with the needed length in bytes, exactly where the text is longer than the
-/// buffer. It returns `TooLong` instead if that length does not fit `usize`; for UTF-8 it always
-/// fits. After an error the whole buffer stays as it was. It requests no memory.
+/// It returns the number of bytes that it wrote to the start of the buffer, and leaves the rest
+/// unchanged. It returns `TooShort`, with the needed length in bytes, exactly when the text is
+/// longer than the buffer. It returns `TooLong` instead if that length does not fit `usize`, which
+/// never happens for UTF-8. After an error the whole buffer is unchanged. The call allocates
+/// nothing.
 ///
 /// ```rust
 /// let mut buf = [0xEE; 4];

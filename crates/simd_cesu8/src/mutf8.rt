@@ -1,5 +1,9 @@
 //! Modified UTF-8 (MUTF-8), as Java's `DataInput` and `DataOutput` define it: CESU-8, but U+0000 is
-//! C0 80. So no byte of an encoding is 00.
+//! C0 80. So no byte of an encoding is 00. Java writes a string's length in two bytes before it.
+//! These are not part of the encoding here; the crate `java_text` reads and writes them.
+//!
+//! Each call is like the call of the root that has its name. What it takes and returns, which
+//! errors it returns, when it borrows and what it allocates are described there.
 //!
 //! ```rust
 //! let built = simd_cesu8::mutf8::encode(alloc, "a\0")?;
@@ -26,8 +30,8 @@ use crate::internal::{EncodingAlone, Lenient, Mutf8Flavor, encoded_len_by_need};
 use crate::{borrow_or_build, internal};
 use std::alloc::{AllocError, Global};
 
-/// Returns whether the MUTF-8 of a text differs from its UTF-8: whether some scalar value is
-/// U+0000, or U+10000 or more. It requests no memory.
+/// Like [`crate::needs_encoded`], for MUTF-8, which also differs from UTF-8 if the string contains
+/// U+0000.
 ///
 /// ```rust
 /// assert!(rt; !simd_cesu8::mutf8::needs_encoded("\u{20AC}"));
@@ -40,8 +44,8 @@ pub fn needs_encoded(value: &str) -> bool
     internal::needs_encoded::<Mutf8Flavor>(value)
 }
 
-/// Returns the length in bytes of the MUTF-8 (Java's `DataOutput`, without a length in front) of a
-/// text. It requests no memory.
+/// Like [`crate::encoded_len`], for MUTF-8. The length does not count the two bytes that Java's
+/// `DataOutput` writes first.
 ///
 /// ```rust
 /// assert_eq!(rt; simd_cesu8::mutf8::encoded_len("a\0"), 3);
@@ -52,8 +56,7 @@ pub fn encoded_len(value: &str) -> usize
     internal::encoded_len::<Mutf8Flavor>(value)
 }
 
-/// Returns the text with the length of its MUTF-8 (Java's `DataOutput`, without a length in front),
-/// for formats that write that length in front. The text is counted once. It requests no memory.
+/// Like [`crate::counted`], for MUTF-8.
 ///
 /// ```rust
 /// assert_eq!(rt; simd_cesu8::mutf8::counted("a\0").encoded_len(), 3);
@@ -68,11 +71,7 @@ pub fn counted(value: &str) -> CountedText<'_>
     )
 }
 
-/// Encodes a text to MUTF-8 (Java's `DataOutput`, without a length in front).
-///
-/// The result borrows the text's bytes where they are the encoding, and then takes no memory.
-/// Otherwise the call makes one request for exactly the encoding's length in bytes, and returns
-/// `AllocError` if it is refused.
+/// Like [`crate::encode`], for MUTF-8.
 ///
 /// ```rust
 /// let borrowed = simd_cesu8::mutf8::encode(alloc, "\u{205}")?;
@@ -91,12 +90,7 @@ pub fn encode(alloc: Global, value: &str) -> Result<CowBytes<'_>, AllocError>
     borrow_or_build::encode::<Mutf8Flavor>(alloc, value)
 }
 
-/// Appends the MUTF-8 (Java's `DataOutput`, without a length in front) of a text to the buffer.
-///
-/// If the capacity is too small, the call makes one request before it writes. The buffer then grows
-/// by a factor, as with `Vec::push`, so that many short texts need few requests. Otherwise, and for
-/// the empty text, it makes none. It returns `AllocError` if the request is refused, and the buffer
-/// is then as before.
+/// Like [`crate::encode_into`], for MUTF-8.
 ///
 /// ```rust
 /// let mut buf = simd_cesu8::mutf8::encode(alloc, "id=")?.into_vec(alloc)?;
@@ -108,7 +102,7 @@ pub fn encode_into(value: &str, buf: &mut Vec<u8>) -> Result<(), AllocError>
     ensures err { OnErr result (buf.new.items ≡ buf.old.items) }
     ensures err_capacity { OnErr result (vec_capacity buf.new ≡ vec_capacity buf.old) }
 
-    // With enough capacity it makes no request, and returns no error.
+    // With enough capacity the call allocates nothing, and returns no error.
     ensures room { vec_len buf.old + length (encoding Mutf8 (chars value.now))
         ≤ vec_capacity buf.old → IsOk result }
     ensures stays { vec_len buf.old + length (encoding Mutf8 (chars value.now))
@@ -119,18 +113,8 @@ pub fn encode_into(value: &str, buf: &mut Vec<u8>) -> Result<(), AllocError>
     counted(value).encode_into(buf)
 }
 
-/// Decodes MUTF-8 (Java's `DataInput`, without a length in front) strictly: returns the text whose
-/// encoding the bytes are.
-///
-/// The result borrows the bytes where they are the text's UTF-8, and then takes no memory.
-/// Otherwise the call makes one request for the input's length in bytes, and returns `Memory` if it
-/// is refused. It makes the request before it decodes, so `Memory` may come in place of `Invalid`.
-///
-/// The call returns `Invalid` if the bytes are the encoding of no text: they are damaged, or have
-/// an unpaired surrogate, an overlong form, a raw byte 00, or a UTF-8 form of four bytes. Java's
-/// own reader accepts some of these.
-///
-/// [`decode`] accepts UTF-8 too, and [`decode_lossy_strict`] accepts any bytes.
+/// Like [`crate::decode_strict`], for MUTF-8. A raw byte 00 is invalid too, and C0 80 is U+0000.
+/// Java's own reader accepts some of the bytes that are invalid here.
 ///
 /// ```rust
 /// let built = simd_cesu8::mutf8::decode_strict(alloc, b"\xC0\x80")?;
@@ -149,12 +133,7 @@ pub fn decode_strict(alloc: Global, bytes: &[u8]) -> Result<CowText<'_>, DecodeF
     decode_as::<Mutf8Flavor, EncodingAlone>(alloc, bytes)
 }
 
-/// Decodes the MUTF-8 (Java's `DataInput`, without a length in front) at the front of the bytes
-/// strictly: returns what [`decode_strict`] does of the first `len` bytes, or of all where there
-/// are fewer.
-///
-/// It is for strings that follow one another. It may look at the bytes behind the front, which
-/// change no result, so the time for short ASCII depends less on its length.
+/// Like [`crate::decode_strict_front`], for MUTF-8.
 ///
 /// ```rust
 /// let bytes = b"name\xC0\x80".as_slice();
@@ -178,16 +157,7 @@ pub fn decode_strict_front(
     borrow_or_build::decode_strict_front::<Mutf8Flavor>(alloc, bytes, len)
 }
 
-/// Decodes bytes that are UTF-8 as a whole, or else MUTF-8 (Java's `DataInput`). It reads no input
-/// partly as one and partly as the other.
-///
-/// The result borrows bytes that are UTF-8, and then takes no memory. Otherwise the call makes one
-/// request for the input's length in bytes, and returns `Memory` if it is refused. It makes the
-/// request before it decodes, so `Memory` may come in place of `Invalid`.
-///
-/// The call returns `Invalid` if the bytes are neither UTF-8 as a whole nor the encoding of a text.
-///
-/// [`decode_strict`] accepts the encoding alone, and [`decode_lossy`] accepts any bytes.
+/// Like [`crate::decode`], for bytes that are UTF-8 as a whole, or else MUTF-8.
 ///
 /// ```rust
 /// let borrowed = simd_cesu8::mutf8::decode(alloc, b"a\0")?;
@@ -208,14 +178,7 @@ pub fn decode(alloc: Global, bytes: &[u8]) -> Result<CowText<'_>, DecodeFault>
     decode_as::<Mutf8Flavor, Lenient>(alloc, bytes)
 }
 
-/// Decodes MUTF-8 (Java's `DataInput`) that may be damaged: returns each encoded character in the
-/// bytes, and one U+FFFD for each byte in none.
-///
-/// The result borrows the bytes where they are the text's UTF-8, and then takes no memory.
-/// Otherwise the call makes one request for exactly the text's length in bytes, [`lossy_len`]. It
-/// returns `AllocError` if that is refused or does not fit `usize`.
-///
-/// [`decode_strict`] returns an error for damaged bytes, and [`decode_lossy`] accepts UTF-8 too.
+/// Like [`crate::decode_lossy_strict`], for MUTF-8. It also replaces a raw byte 00 by U+FFFD.
 ///
 /// ```rust
 /// let text = simd_cesu8::mutf8::decode_lossy_strict(alloc, b"\xC0\xC0\x80")?;
@@ -233,16 +196,8 @@ pub fn decode_lossy_strict(alloc: Global, bytes: &[u8]) -> Result<CowText<'_>, A
     decode_lossy_as::<Mutf8Flavor, EncodingAlone>(alloc, bytes)
 }
 
-/// Decodes bytes that are UTF-8 as a whole, or else MUTF-8 (Java's `DataInput`) that may be
-/// damaged. For the latter it returns each encoded character, and one U+FFFD for each byte in none.
-/// It reads no input partly as UTF-8 and partly as the encoding.
-///
-/// The result borrows bytes that are UTF-8, and then takes no memory. Otherwise the call makes one
-/// request for exactly the text's length in bytes, [`lossy_len`]. It returns `AllocError` if that
-/// is refused or does not fit `usize`.
-///
-/// [`decode`] returns an error for damaged bytes, and [`decode_lossy_strict`] accepts the encoding
-/// alone.
+/// Like [`crate::decode_lossy`], for bytes that are UTF-8 as a whole, or else MUTF-8 that may be
+/// damaged.
 ///
 /// ```rust
 /// let text = simd_cesu8::mutf8::decode_lossy(alloc, b"\0\xC0\x80")?;
@@ -259,11 +214,8 @@ pub fn decode_lossy(alloc: Global, bytes: &[u8]) -> Result<CowText<'_>, AllocErr
     decode_lossy_as::<Mutf8Flavor, Lenient>(alloc, bytes)
 }
 
-/// Returns the length in bytes of the text that [`decode_strict`] returns, which decodes MUTF-8
-/// (Java's `DataInput`, without a length in front). It returns `None` exactly where the bytes are
-/// the encoding of no text, so it also tests whether they are valid. It requests no memory.
-///
-/// [`lossy_len`] has a length for damaged bytes too.
+/// Like [`crate::decoded_len`], for MUTF-8: the length in bytes of the text that [`decode_strict`]
+/// returns, or `None` if the bytes are the encoding of no text.
 ///
 /// ```rust
 /// assert_eq!(rt; simd_cesu8::mutf8::decoded_len(b"a\xC0\x80"), Some(2));
@@ -277,13 +229,8 @@ pub fn decoded_len(bytes: &[u8]) -> Option<usize>
     internal::decoded_len::<Mutf8Flavor>(bytes)
 }
 
-/// Returns the length in bytes of the text that [`decode_lossy_strict`] returns, which decodes
-/// MUTF-8 (Java's `DataInput`) that may be damaged. Each byte in no encoded character counts as the
-/// three bytes of U+FFFD. It returns `None` if the length does not fit `usize`. It requests no
-/// memory.
-///
-/// [`decode_lossy`] borrows bytes that are UTF-8 as a whole, so its text is then as long as the
-/// input.
+/// Like [`crate::lossy_len`], for MUTF-8: the length in bytes of the text that
+/// [`decode_lossy_strict`] returns, or `None` if it does not fit `usize`.
 ///
 /// ```rust
 /// assert_eq!(rt; simd_cesu8::mutf8::lossy_len(b"\xC0\x80"), Some(1));
@@ -296,12 +243,7 @@ pub fn lossy_len(bytes: &[u8]) -> Option<usize>
     internal::lossy_len::<Mutf8Flavor>(bytes)
 }
 
-/// Returns how many bytes at the front are whole encoded characters of MUTF-8 (Java's `DataInput`):
-/// all where [`decode_strict`] returns a text, else those before the first byte for which
-/// [`decode_lossy_strict`] has U+FFFD. It stops soon after them. It requests no memory.
-///
-/// The bytes from there on may begin with damage, or with a part of a character whose other bytes
-/// follow in the next read: of at most five bytes.
+/// Like [`crate::valid_up_to`], for MUTF-8: the length in bytes of the longest valid prefix.
 ///
 /// ```rust
 /// assert_eq!(rt; simd_cesu8::mutf8::valid_up_to(b"id=\xC0\x80\0"), 5);
@@ -312,8 +254,8 @@ pub fn valid_up_to(bytes: &[u8]) -> usize
     ensures within { result ≤ length bytes.now }
     ensures valid { HasStrictReading Mutf8 (take result bytes.now) }
 
-    // If there are more bytes, no encoded character begins behind these, so no longer front has a
-    // strict reading, and the lossy reading replaces the byte there.
+    // If bytes follow the prefix, no encoded character begins there, no longer prefix has a strict
+    // reading, and the lossy reading replaces the next byte.
     ensures stops { result < length bytes.now → NoneBegins Mutf8 (drop result bytes.now) }
     ensures greatest { (n : ℕ) → result < n → n ≤ length bytes.now
         → HasNoStrictReading Mutf8 (take n bytes.now) }
@@ -322,19 +264,15 @@ pub fn valid_up_to(bytes: &[u8]) -> usize
     internal::valid_up_to::<Mutf8Flavor>(bytes)
 }
 
-/// Encodes a text to MUTF-8 (Java's `DataOutput`, without a length in front), in the caller's
-/// buffer.
-///
-/// It returns how many bytes it wrote at the front of the buffer; the rest stays as it was. If the
-/// buffer is too short, it returns [`TooShort`] with the needed length in bytes, and all of it
-/// stays as it was. So a call with an empty buffer reports the length. It requests no memory.
+/// Like [`crate::encode_to_slice`], for MUTF-8.
 ///
 /// ```rust
 /// let mut buf = [0xEE; 4];
 /// assert_eq!(rt; simd_cesu8::mutf8::encode_to_slice("a\0", &mut buf)?, 3);
 /// assert_eq!(rt; buf.as_slice(), b"a\xC0\x80\xEE".as_slice());
 /// ```
-// Inlined, as each call on a slice is: a result returned by memory would be copied on its way.
+// Inlined, as all calls that write to a slice are: a result that is returned in memory would be
+// copied once more.
 #[inline(always)]
 pub fn encode_to_slice(value: &str, buf: &mut [u8]) -> Result<usize, TooShort>
     ensures { WritesAnswer (encoding Mutf8 (chars value.now)) result buf.old buf.new }
@@ -342,14 +280,8 @@ pub fn encode_to_slice(value: &str, buf: &mut [u8]) -> Result<usize, TooShort>
     internal::encode_to_slice::<Mutf8Flavor>(value, buf)
 }
 
-/// Decodes MUTF-8 (Java's `DataInput`, without a length in front) strictly, and writes the UTF-8 of
-/// the text to the caller's buffer.
-///
-/// It returns how many bytes it wrote at the front of the buffer; the rest stays as it was. It
-/// returns `Invalid` exactly where the bytes are the encoding of no text. It returns `TooShort`,
-/// with the needed length in bytes, exactly where the text is longer than the buffer. After an
-/// error the whole buffer stays as it was. A text is never longer than its encoding. It requests no
-/// memory.
+/// Like [`crate::decode_strict_to_slice`], for MUTF-8. It returns `Invalid` for the same bytes as
+/// [`decode_strict`].
 ///
 /// ```rust
 /// let mut buf = [0xEE; 4];
@@ -363,14 +295,7 @@ pub fn decode_strict_to_slice(bytes: &[u8], buf: &mut [u8]) -> Result<usize, Dec
     internal::decode_to_slice::<Mutf8Flavor, EncodingAlone>(bytes, buf)
 }
 
-/// Decodes bytes that are UTF-8 as a whole, or else MUTF-8 (Java's `DataInput`), and writes the
-/// UTF-8 of the text to the caller's buffer.
-///
-/// It returns how many bytes it wrote at the front of the buffer; the rest stays as it was. It
-/// returns `Invalid` exactly where the bytes are neither UTF-8 as a whole nor the encoding of a
-/// text. It returns `TooShort`, with the needed length in bytes, exactly where the text is longer
-/// than the buffer. After an error the whole buffer stays as it was. A text is never longer than
-/// the input. It requests no memory.
+/// Like [`crate::decode_to_slice`], for bytes that are UTF-8 as a whole, or else MUTF-8.
 ///
 /// ```rust
 /// let mut buf = [0xEE; 4];
@@ -384,14 +309,8 @@ pub fn decode_to_slice(bytes: &[u8], buf: &mut [u8]) -> Result<usize, DecodeSlic
     internal::decode_to_slice::<Mutf8Flavor, Lenient>(bytes, buf)
 }
 
-/// Decodes MUTF-8 (Java's `DataInput`) that may be damaged, and writes to the caller's buffer: the
-/// UTF-8 of each encoded character in the bytes, and U+FFFD for each byte in none.
-///
-/// It returns how many bytes it wrote at the front of the buffer; the rest stays as it was. It
-/// returns `TooShort`, with the needed length in bytes, exactly where the text is longer than the
-/// buffer. It returns `TooLong` instead if that length, [`lossy_len`], does not fit `usize`. After
-/// an error the whole buffer stays as it was. A text has at most three times as many bytes as the
-/// input. It requests no memory.
+/// Like [`crate::decode_lossy_strict_to_slice`], for MUTF-8. It also replaces a raw byte 00 by
+/// U+FFFD.
 ///
 /// ```rust
 /// let mut buf = [0xEE; 6];
@@ -406,14 +325,8 @@ pub fn decode_lossy_strict_to_slice(bytes: &[u8], buf: &mut [u8]) -> Result<usiz
     internal::decode_lossy_to_slice::<Mutf8Flavor, EncodingAlone>(bytes, buf)
 }
 
-/// Decodes bytes that are UTF-8 as a whole, or else MUTF-8 (Java's `DataInput`) that may be
-/// damaged, and writes the UTF-8 of the text to the caller's buffer. For the latter it writes each
-/// encoded character, and U+FFFD for each byte in none.
-///
-/// It returns how many bytes it wrote at the front of the buffer; the rest stays as it was. It
-/// returns `TooShort`, with the needed length in bytes, exactly where the text is longer than the
-/// buffer. It returns `TooLong` instead if that length does not fit `usize`; for UTF-8 it always
-/// fits. After an error the whole buffer stays as it was. It requests no memory.
+/// Like [`crate::decode_lossy_to_slice`], for bytes that are UTF-8 as a whole, or else MUTF-8 that
+/// may be damaged.
 ///
 /// ```rust
 /// let mut buf = [0xEE; 4];

@@ -1,5 +1,5 @@
--- This goal is also found with no answer. Where an edit of must-fail makes it false, this gives up
--- sooner than the searches that are tried there.
+-- The prover finds this goal by itself. The search given here fails sooner if an edit of must-fail
+-- makes the goal false.
 use Rattle.std.proofs.Common.{rules}
 use Rattle.java_text.proofs.read_utf_lossy.Goals as goal
 

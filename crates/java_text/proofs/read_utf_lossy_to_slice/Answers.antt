@@ -2,7 +2,7 @@ use Rattle.std.proofs.Common.{length, ap, arith}
 use Rattle.java_text.proofs.FormSlices.{never_too_long, few_counted}
 use Rattle.java_text.proofs.read_utf_lossy_to_slice.Goals as goal
 
--- The counted bytes are too few for a text that no `usize` counts.
+-- There are too few counted bytes for a text whose length does not fit `usize`.
 pub unreachable-requires : goal.unreachable-requires
 unreachable-requires c =
     let few = few_counted c.args.bytes.now (λ i. omega (arith, c.type_inv.bytes i)) in

@@ -12,6 +12,6 @@ returns-clause-only c =
     only_form_of_parts c.args.bytes.now c.ok_or.result c.one_form.ensures (λ i. omega (arith, c.type_inv.bytes i))
     (grind (arith, common_steps)) (grind (arith, common_steps)) (grind (arith, common_steps))
 
--- What has no first two bytes is refused.
+-- Input of fewer than two bytes is rejected.
 pub returns-in_default-clause-whole : goal.returns-in_default-clause-whole
 returns-in_default-clause-whole c = tt

@@ -1,6 +1,6 @@
-//! The encoding as a value, for what has no type parameter.
+//! The encoding as a value, for types that are not generic in it.
 
-/// Which of the two encodings.
+/// One of the two encodings.
 #[derive(Clone, Copy)]
 pub enum Flavor {
     Cesu8,

@@ -9,7 +9,8 @@ use Rattle.simd_cesu8.specs.declared.cow.CowText.TheVariants.{Borrowed}
 use Rattle.simd_cesu8.specs.declared.error.DecodeFault.{DecodeFault}
 use Rattle.simd_cesu8.proofs.borrow_or_build.decode_strict_front.Goals as goal
 
--- What is returned of so many bytes as there are is what is wanted of the first ones.
+-- The first `len` bytes are the first `most`, which is `len` or the number of bytes, if that is
+-- less. So a result for one is a result for the other.
 of_front : (f : Flavor) (bytes : List ℕ) (len most : ℕ) (result : Result CowText DecodeFault) → most ≡ min len (length bytes) →
     DecodesStrictly f (take most bytes) result → DecodesStrictly f (take len bytes) result
 of_front f bytes len most result is decodes =

@@ -7,7 +7,8 @@ use Rattle.simd_cesu8.specs.declared.error.DecodeSliceFault.{DecodeSliceFault}
 use Rattle.simd_cesu8.proofs.FrontsToSlices.{unchanged_written}
 use Rattle.simd_cesu8.proofs.front_to_slice.decode_strict_front_to_slice.Goals as goal
 
--- What is written of so many bytes as there are is what is wanted of the first ones.
+-- The first `len` bytes are the first `most`, which is `len` or the number of bytes, if that is
+-- less. So what is written for one is written for the other.
 of_front : (f : Flavor) (bytes old new : List ℕ) (len most : ℕ) (result : Result ℕ DecodeSliceFault) → most ≡ min len (length bytes) →
     WritesReading (IsStrictReading f (take most bytes)) result old new → WritesReading (IsStrictReading f (take len bytes)) result old new
 of_front f bytes old new len most result is writes =
