@@ -1,4 +1,4 @@
--- What `encode` and `needs` answer, and what a text's bytes are, from what std says of them.
+-- The results of `encode` and `needs`, and the bytes of a string, from what std promises of them.
 use Rattle.std.proofs.Common.{◌≡◌, ℕ, List, ◌∙◌, sym, subst, ap, Ok}
 use Rattle.std.specs.Str.{chars, IsUtf8}
 use Rattle.simd_cesu8.specs.Text.{utf8, IsUtf8Of}
@@ -10,12 +10,13 @@ use Rattle.cesu8_cli.specs.Answer.{IsEncodingAnswer, TakesNoMemory}
 use Rattle.cesu8_cli.specs.declared.command.FlavorWord.{FlavorWord}
 use Rattle.cesu8_cli.specs.declared.command.Command.TheVariants.{Encode}
 
--- The library's answer at the flavor g is that of the word.
+-- If the word names the flavor g, the library's encoding in g is the right output.
 pub encoded : (flavor : FlavorWord) (g : Flavor) (input text bytes : List ℕ) → flavor_of flavor ≡ g → IsUtf8Of text input →
     bytes ≡ encoding g text → IsEncodingAnswer (flavor_of flavor) input (Ok bytes)
 encoded flavor g input text bytes is u e = (text, u, e ∙ ap (λ f. encoding f text) (sym is))
 
--- A text needs no encoding at the word's flavor g where `encode` takes no memory for its UTF-8.
+-- A text needs no encoding in the flavor g that the word names if `encode` allocates nothing for
+-- its UTF-8.
 pub needs_none : UnchangedString → (flavor : FlavorWord) (g : Flavor) (input text : List ℕ) → flavor_of flavor ≡ g →
     IsUtf8Of text input → TakesNoMemory (Encode flavor) input → NeedsEncoding g text → ⊥
 needs_none unchanged flavor g input text is u none need =
@@ -24,9 +25,9 @@ needs_none unchanged flavor g input text is u none need =
     (unchanged (flavor_of flavor) input is_utf8).1 (is_utf8, none is_utf8)
     (subst (NeedsEncoding (flavor_of flavor)) same (subst (λ f. NeedsEncoding f text) (sym is) need))
 
--- The bytes of a text are its UTF-8.
+-- The bytes of a string are the UTF-8 of its characters.
 pub text_bytes : (text bytes : List ℕ) → IsUtf8 text → bytes ≡ text → bytes ≡ utf8 (chars text)
 text_bytes text bytes h e = e ∙ sym (IsUtf8Of_chars text h).1
 
--- Whether the input is the UTF-8 of a text.
+-- What the proof of `input_text` uses to show whether the input is the UTF-8 of a text.
 pub ruleset whether_utf8 = (IsUtf8Of_chars_at, IsUtf8_utf8)

@@ -1,8 +1,8 @@
--- A slice that is written a piece at a time.
+-- Slices that are written a piece at a time.
 use Rattle.std.proofs.Common.{◌≡◌, ℕ, ◌-◌, List, ◌++◌, length, take, drop, sym, ap, ◌∙◌, append_assoc}
 use Rattle.std.proofs.lemmas.List.{take_rest, take-append-drop}
 
--- what was written, the next n bytes, and those after them are the whole
+-- A slice is the bytes that were written, the next n bytes, and the bytes after those.
 pub whole_after : (whole written rest : List ℕ) (n : ℕ) → whole ≡ written ++ rest →
     whole ≡ (written ++ take n rest) ++ take (length rest - n) (drop n rest)
 whole_after whole written rest n e =

@@ -31,6 +31,6 @@ words_of JavaRead = codes "java-read" ∷ codes "mutf8" ∷ []
 abbrev pub AreWordsOf : Command → List (Bor (List ℕ)) → Type 0
 AreWordsOf command words = map (λ word. word.now) words ≡ words_of command
 
--- The words are those of no command.
+-- The arguments are those of no command.
 abbrev pub AreNoCommand : List (Bor (List ℕ)) → Type 0
 AreNoCommand words = (command : Command) → ¬ (AreWordsOf command words)

@@ -1,4 +1,4 @@
--- What a user sees of a fault.
+-- What a user sees of an error.
 use Rattle.std.specs.Prelude.{ℕ, List, codes, ⊤}
 use Rattle.simd_cesu8.specs.declared.error.DecodeFault.{DecodeFault}
 use Rattle.simd_cesu8.specs.declared.error.DecodeFault.TheVariants as faults
@@ -20,7 +20,7 @@ line_of Trailing = codes "cesu8: bytes after the string"
 line_of Memory = codes "cesu8: out of memory"
 line_of Io = codes "cesu8: input or output failed"
 
--- The exit status: 1 for bad input, 2 for bad words, 3 for out of memory, 4 for failed input or
+-- The exit status: 1 for bad input, 2 for bad arguments, 3 for out of memory, 4 for failed input or
 -- output.
 abbrev pub status_of : RunFault → ℕ
 status_of Usage = 2
@@ -32,14 +32,14 @@ status_of Trailing = 1
 status_of Memory = 3
 status_of Io = 4
 
--- The faults of the input: all but those of the words, of memory and of the devices.
+-- The errors of the input: all but those of the arguments, of memory and of the devices.
 abbrev pub IsRefusal : RunFault → Type 0
 IsRefusal Usage = ⊥
 IsRefusal Memory = ⊥
 IsRefusal Io = ⊥
 IsRefusal other = ⊤
 
--- How a run ends for a fault of the libraries.
+-- How a run ends for an error of the libraries.
 abbrev pub run_fault_of : DecodeFault → RunFault
 run_fault_of (faults.Invalid error) = Invalid error
 run_fault_of (faults.Memory error) = Memory

@@ -1,4 +1,4 @@
-//! The whole output of a command, from the whole input.
+//! Computes the whole output of a command from the whole input.
 
 ghost use Rattle.std.specs.Prelude.{◌≡◌, ◌≢◌, ◌⊎◌, [], IsTrue, IsUtf8, IfOk, IfErr, Ok, Err};
 ghost use Rattle.std.specs.Str.{chars};
@@ -16,7 +16,7 @@ use simd_cesu8::{CowBytes, CowText, laws, mutf8};
 use simdutf8::compat;
 use std::alloc::Global;
 
-/// Returns the output of the command, or the fault.
+/// Returns the output of the command, or the error.
 #[tactic(auto, unfolding(crate::specs::Answer::IsAnswer))]
 pub fn answer(alloc: Global, command: Command, input: &[u8]) -> Result<CowBytes<'_>, RunFault>
     ensures ok { IfBytes result (λ bytes. IsAnswer command input.now (Ok bytes)) }
@@ -53,7 +53,7 @@ fn encode(alloc: Global, flavor: FlavorWord, input: &[u8]) -> Result<CowBytes<'_
     }
 }
 
-/// Returns `yes` or `no`, as a line. Both are constants, so this takes no memory.
+/// Returns the line `yes` or the line `no`. Both are constants, so nothing is allocated.
 fn needs(flavor: FlavorWord, input: &[u8]) -> Result<CowBytes<'_>, RunFault>
     ensures ok { IfBytes result (λ bytes. IsNeedsAnswer (flavor_of flavor) input.now (Ok bytes)) }
     ensures err { IfErr result (λ fault. IsUtf8Fault input.now fault) }
@@ -70,7 +70,7 @@ fn needs(flavor: FlavorWord, input: &[u8]) -> Result<CowBytes<'_>, RunFault>
     }
 }
 
-/// Returns the input as a text, for the commands that take UTF-8.
+/// Returns the input as a string, for the commands that take UTF-8.
 #[tactic(auto, using(crate::proofs::Encoded::whether_utf8))]
 fn input_text(input: &[u8]) -> Result<&str, RunFault>
     ensures ok { IfOk result (λ text. IsUtf8Of (chars text.now) input.now) }

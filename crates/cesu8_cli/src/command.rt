@@ -18,7 +18,7 @@ pub enum Command {
     Lossy(FlavorWord),
     /// Decodes the encoding alone, which may be damaged.
     LossyStrict(FlavorWord),
-    /// Writes UTF-8 as a Java string, which is MUTF-8 with its length in front.
+    /// Writes UTF-8 as a Java string, which is MUTF-8 after its length.
     JavaWrite,
     /// Reads one Java string.
     JavaRead,

@@ -11,19 +11,19 @@ use std::alloc::AllocError;
 /// Why a run writes no output, or only a part of it.
 #[derive(Debug, Drop)]
 pub enum RunFault {
-    /// The words are no command and flavor. Nothing was read.
+    /// The arguments are not a command and a flavor. Nothing was read.
     Usage,
     /// The input of a command that takes UTF-8 is not UTF-8.
     NotUtf8,
-    /// The input is the encoding of no text, or the Java string in it is.
+    /// No text has the input, or the Java string in it, as its encoding.
     Invalid(DecodingError),
     /// The input ends before the Java string does.
     Truncated,
-    /// The text has this many bytes of MUTF-8, more than a Java string can have.
+    /// The text's MUTF-8 has this many bytes, more than a Java string can have.
     TooLong(usize),
     /// Bytes follow the Java string.
     Trailing,
-    /// A request for memory was refused.
+    /// Memory could not be allocated.
     Memory,
     /// A read, a write or a flush failed, or a write accepted no byte.
     Io,

@@ -15,7 +15,7 @@ fn main(rt: HostRuntime) -> ExitCode {
     match run_words(&rt) {
         Ok(()) => ExitCode::SUCCESS,
         Err(fault) => {
-            // A failure to write the line changes nothing.
+            // If the line can't be written, the exit status is the same.
             let _ = rt.eprintln(fault_line(&fault));
             ExitCode::from(fault_status(&fault))
         }

@@ -13,7 +13,7 @@ use crate::fault::RunFault;
 use std::alloc::Global;
 use std::io::{Read, Write};
 
-/// The most bytes of one read.
+/// The largest number of bytes of one read.
 const CHUNK: usize = 16384;
 
 /// Reads the whole input, makes the whole output, and then writes it and flushes once.
@@ -23,7 +23,7 @@ pub fn run<R: Read, W: Write>(
     input: &mut R,
     output: &mut W,
 ) -> Result<(), RunFault>
-    // The output belongs to what was read, which is the whole input.
+    // The output is that of the bytes that were read, which are the whole input.
     ensures ok { OnOk result (AppendsAnswer words.now (R.remaining input.old)
         (W.contents output.old) (W.contents output.new)) }
     ensures end { OnOk result (IsAtEnd (R.remaining input.new)) }
@@ -36,7 +36,7 @@ pub fn run<R: Read, W: Write>(
     ensures usage { (result ≡ Err RunFault.Usage) ↔ AreNoCommand words.now }
     ensures unread { result ≡ Err RunFault.Usage → input.new ≡ input.old }
 
-    // A fault of the input needs the whole input.
+    // An error of the input is the right one for the whole input.
     ensures refused { IfErr result (λ fault. IsRefusal fault → IfSome (R.remaining input.old)
         (λ bytes. IsAnswerTo words.now bytes (Err fault))) }
     ensures refused_end { IfErr result (λ fault.
@@ -73,7 +73,7 @@ fn read_whole<R: Read>(alloc: Global, input: &mut R) -> Result<Vec<u8>, RunFault
         if count == 0 {
             return Ok(bytes);
         }
-        // No vector has more, so this counts as a refused request.
+        // No vector can be longer, so this counts as a failed allocation.
         if count > usize::MAX / 2 - bytes.len() {
             return Err(RunFault::Memory);
         }

@@ -1,4 +1,4 @@
-//! What the errors show.
+//! How the errors display.
 
 use simd_cesu8::{DecodeFault, encode_to_slice};
 use std::alloc::{AllocError, Global};
@@ -6,7 +6,7 @@ use std::error::Error;
 use std::test::Fail;
 use test_cases::flavors::{Flavor, decode};
 
-/// Whether an error shows these words, with a width too.
+/// Whether an error displays as these words, with and without a width.
 fn shows<E: Error>(alloc: Global, error: &E, words: &str) -> Result<bool, AllocError> {
     let plain = format!(in alloc; "{error}")?;
     let wide = format!(in alloc; "{error:>20}")?;

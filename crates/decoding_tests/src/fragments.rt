@@ -1,5 +1,5 @@
-//! Fragments of characters in any order, drawn by a generator that gives the same in each run, beside
-//! the plain decoder.
+//! Fragments of characters in random order, compared with the plain decoder. The random numbers are
+//! the same in each run.
 
 use crate::rows::ROWS;
 use std::alloc::{AllocError, Global};
@@ -7,19 +7,20 @@ use std::test::Fail;
 use test_cases::comparisons::expect_readings;
 use test_cases::fills::FILLS;
 
-/// The number after another, by shifts as in Marsaglia's "Xorshift RNGs".
+/// The next random number after one, by Marsaglia's "Xorshift RNGs".
 fn after(number: u64) -> u64 {
     let number = number ^ (number << 13);
     let number = number ^ (number >> 7);
     number ^ (number << 17)
 }
 
-/// The row at this place, where they come in turn.
+/// The bytes of a row of the table, which is repeated.
 fn row_at(place: usize) -> &'static [u8] {
     ROWS[place % ROWS.len()].0
 }
 
-/// The sequence of a number: so many rows or, but for one of so many, characters.
+/// A random sequence of `pieces` pieces: one of `one_of` is a row of the table, and the others are
+/// characters.
 fn sequence(alloc: Global, seed: u64, pieces: u64, one_of: u64) -> Result<Vec<u8>, AllocError> {
     let mut bytes = Vec::new(alloc);
     let mut number = after(after(seed.wrapping_mul(0x9E37_79B9_7F4A_7C15) | 1));
@@ -35,7 +36,7 @@ fn sequence(alloc: Global, seed: u64, pieces: u64, one_of: u64) -> Result<Vec<u8
     Ok(bytes)
 }
 
-/// Rows alone, and characters with rows among them.
+/// Sequences of rows alone, and of characters with some rows among them.
 #[test]
 fn reads_fragments(rt: HostRuntime) -> Result<(), Fail> {
     for one_of in [1, 3, 50, 400] {

@@ -1,11 +1,11 @@
-//! The front of bytes, by what is read of it alone.
+//! `decode_strict_front`, compared with `decode_strict` of the same bytes.
 
 use std::alloc::Global;
 use std::process::Abort;
 use test_cases::decoders::outcome_of;
 use test_cases::flavors::{FLAVORS, decode_strict, decode_strict_front};
 
-/// Asserts that the front of so many bytes is read as it is alone, in each encoding.
+/// Asserts that both calls return the same for the first `len` bytes, in each encoding.
 fn assert_front(rt: &impl Abort, alloc: Global, bytes: &[u8], len: usize) {
     let front = &bytes[..len.min(bytes.len())];
     for flavor in FLAVORS {
@@ -19,7 +19,8 @@ fn assert_front(rt: &impl Abort, alloc: Global, bytes: &[u8], len: usize) {
     }
 }
 
-/// Another byte is the last one of the front, the one before that, or the first one behind it.
+/// One byte among letters is the last of the first `len` bytes, the one before that, or the first
+/// byte after them.
 #[test]
 fn reads_fronts_of_each_length(rt: HostRuntime) {
     let mut bytes = [b'a'; 200];

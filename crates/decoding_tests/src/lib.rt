@@ -1,4 +1,4 @@
-//! Tests of the calls of `simd_cesu8` that decode, on values that were not computed by them.
+//! Tests of the calls of `simd_cesu8` that decode. The expected values were not computed by them.
 #![tactic(auto)]
 
 #[cfg(test)]

@@ -1,4 +1,4 @@
-//! All 65,536 inputs of two bytes, beside the plain decoder.
+//! All 65,536 inputs of two bytes, compared with the plain decoder.
 
 use std::alloc::Global;
 use std::test::Fail;
@@ -7,10 +7,11 @@ use test_cases::decoders::{Decoder, Outcome};
 use test_cases::flavors::{FLAVORS, Flavor, lossy_len};
 use test_cases::plain::read;
 
-/// How many inputs are read, how many of these are borrowed, and how many U+FFFD are written.
+/// The numbers of inputs that are decoded, of those that are borrowed, and of U+FFFD that are
+/// written.
 type Counts = (u32, u32, usize);
 
-/// Compares one call on each input.
+/// Compares one call for each input.
 fn count(alloc: Global, decoder: Decoder, flavor: Flavor) -> Result<Counts, Difference> {
     let (mut read_inputs, mut borrowed, mut damaged) = (0u32, 0u32, 0usize);
     for pair in 0..=u16::MAX {
@@ -66,8 +67,7 @@ fn reads_pairs_lossily(rt: HostRuntime) -> Result<(), Fail> {
     Ok(expect_counts(rt.alloc(), Decoder::LossyLenient, both)?)
 }
 
-/// Measures each input, and counts how many are read lossily as so many bytes of UTF-8, from none
-/// to six.
+/// Compares `lossy_len` of each input, and counts the inputs with each length, from 0 to 6.
 fn count_lengths(alloc: Global, flavor: Flavor) -> Result<[u32; 7], Difference> {
     let mut counts = [0u32; 7];
     for pair in 0..=u16::MAX {

@@ -1,5 +1,5 @@
-//! What changes, and damage, at the places where blocks and windows begin and end, beside the plain
-//! decoder.
+//! Characters that change, and damage, near the borders of blocks and windows, compared with the
+//! plain decoder.
 
 use crate::rows::ROWS;
 use std::alloc::Global;
@@ -8,8 +8,8 @@ use std::test::Fail;
 use test_cases::comparisons::{Difference, expect_readings};
 use test_cases::fills::{FILLS, Input};
 
-/// A surrogate pair and one that is cut, U+0000 in both forms, four bytes of UTF-8, a lead byte, and
-/// bytes that begin nothing.
+/// A surrogate pair, one that is cut off, U+0000 in both forms, UTF-8 of four bytes, lead bytes,
+/// and bytes that begin no character.
 static PIECES: [&[u8]; 11] = [
     b"\xED\xA0\xBD\xED\xB2\x96",
     b"\xED\xA0\xBD\xED\xB2",
@@ -24,7 +24,7 @@ static PIECES: [&[u8]; 11] = [
     b"\xFF",
 ];
 
-/// Compares what is read where something is put at each of some places.
+/// Compares what is decoded if `put` is inserted at each of some offsets.
 fn expect_at(
     alloc: Global,
     fill: &[u8],
@@ -44,7 +44,7 @@ fn expect_at(
     Ok(())
 }
 
-/// Each piece at each of some places.
+/// Each piece at each of some offsets.
 fn expect_each(
     alloc: Global,
     fill: &[u8],
@@ -57,7 +57,7 @@ fn expect_each(
     Ok(())
 }
 
-/// Each piece at each place of ASCII of some lengths.
+/// Each piece at each offset of ASCII of some lengths.
 fn expect_pieces(alloc: Global, lengths: Range<usize>) -> Result<(), Difference> {
     for len in lengths {
         expect_each(alloc, FILLS[0], len, 0..len.saturating_add(1))?;
@@ -76,7 +76,7 @@ fn reads_pieces_about_blocks(rt: HostRuntime) -> Result<(), Fail> {
     Ok(expect_pieces(rt.alloc(), 127..129)?)
 }
 
-/// Each piece about the ends of windows, of which the first is shorter.
+/// Each piece near the ends of windows, the first of which is shorter.
 #[test]
 fn reads_pieces_about_the_ends_of_windows(rt: HostRuntime) -> Result<(), Fail> {
     for end in [256, 1_024, 1_088, 1_280, 2_048] {
@@ -87,18 +87,18 @@ fn reads_pieces_about_the_ends_of_windows(rt: HostRuntime) -> Result<(), Fail> {
     Ok(())
 }
 
-/// U+0000 in its long form among other characters. Each offset of a block is one where it begins,
-/// since this has eleven bytes.
+/// U+0000 as C0 80 among other characters. These are eleven bytes, so if they are repeated, C0 80
+/// begins at each offset of a block.
 const AMONG_NULLS: &[u8] = b"\xC0\x80a\xC0\x80\xC0\x80\xC3\xA9b\x7F";
 
-/// Each piece, and the first byte of U+0000 alone, at each place of a block among these.
+/// Each piece, and a lone C0, at each offset of a block of these.
 #[test]
 fn reads_pieces_among_nulls(rt: HostRuntime) -> Result<(), Fail> {
     expect_each(rt.alloc(), AMONG_NULLS, 420, 64..97)?;
     Ok(expect_at(rt.alloc(), AMONG_NULLS, 420, 64..97, b"\xC0")?)
 }
 
-/// Each byte about the end of a block, in some fills.
+/// Each byte near the end of a block, in some fills.
 fn expect_bytes(alloc: Global, fills: &[&[u8]]) -> Result<(), Difference> {
     for fill in fills {
         for byte in 0..=u8::MAX {
@@ -123,7 +123,7 @@ fn reads_each_byte_among_nulls_and_two_widths(rt: HostRuntime) -> Result<(), Fai
     Ok(expect_bytes(rt.alloc(), &FILLS[4..])?)
 }
 
-/// Something at each offset in a block of 64, at the end of the input and before more of it.
+/// The bytes `put` at each offset of a block of 64, at the end of the input and before more of it.
 fn expect_at_offsets(alloc: Global, put: &[u8]) -> Result<(), Difference> {
     for place in 0..64 {
         expect_at(alloc, FILLS[5], place, place..place + 1, put)?;

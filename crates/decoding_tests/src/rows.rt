@@ -1,4 +1,4 @@
-//! Rows of bytes, whole and damaged, by each call that decodes.
+//! A table of valid and damaged input, decoded by each call.
 
 use std::alloc::{AllocError, Global};
 use std::process::Abort;
@@ -9,14 +9,14 @@ use test_cases::comparisons::{expect, expect_reading};
 use test_cases::flavors::{FLAVORS, Flavor, decode_strict};
 use test_cases::plain::Reading;
 
-/// Bytes that both encodings read alike: U+FFFD so many times, a text, and U+FFFD again. Where there
-/// is none, they are the encoding of the text.
+/// Input with the same reading in both encodings: a number of U+FFFD, a text, and a number of
+/// U+FFFD. If both numbers are 0, the input is the encoding of the text.
 pub static ROWS: [(&[u8], usize, &str, usize); 37] = [
     (b"", 0, "", 0),
     (b"Hello, world!", 0, "Hello, world!", 0),
     (b"\xC8\x85\xE2\x82\xAC", 0, "\u{205}\u{20AC}", 0),
     (b"\xC2\x80A", 0, "\u{80}A", 0),
-    // Bytes in no character, in front of characters, between them and after them.
+    // Bytes that are part of no character, before, between and after characters.
     (b"\x80", 1, "", 0),
     (b"\xC0A", 1, "A", 0),
     (b"\xC0\x81", 2, "", 0),
@@ -30,7 +30,8 @@ pub static ROWS: [(&[u8], usize, &str, usize); 37] = [
     (b"\xE2\x82\xE2\x82\xAC", 2, "\u{20AC}", 0),
     (b"\xF8", 1, "", 0),
     (b"\xFFA\xFF", 1, "A", 1),
-    // Whole UTF-8 of four bytes, whose lenient reading is its text, and what is not UTF-8 as a whole.
+    // UTF-8 of four bytes, which a lenient call accepts, and the same bytes in input that is not
+    // UTF-8.
     (b"\xF0\x9F\x92\x96", 4, "", 0),
     (b"\xF0\x9F\x92\x96\xFF", 5, "", 0),
     (b"\xFF\xF0\x9F\x92\x96", 5, "", 0),
@@ -40,7 +41,7 @@ pub static ROWS: [(&[u8], usize, &str, usize); 37] = [
         "\u{1F496}",
         0,
     ),
-    // Surrogates that are not in a pair, beside one that is.
+    // Unpaired surrogates, also next to a pair.
     (b"\xED\xB2\x96\xED\xA0\xBD", 6, "", 0),
     (b"\xED\xA0\xBD\xED\xA0\xBD", 6, "", 0),
     (b"\xED\xA0\xBD\xED\xA0\xBD\xED\xB2\x96", 3, "\u{1F496}", 0),
@@ -60,7 +61,7 @@ pub static ROWS: [(&[u8], usize, &str, usize); 37] = [
     (b"\xA0\xBD\xED\xB2\x96", 5, "", 0),
 ];
 
-/// Appends so many U+FFFD.
+/// Appends U+FFFD `count` times.
 fn push_marks(text: &mut String, count: usize) -> Result<(), AllocError> {
     for _mark in 0..count {
         text.push('\u{FFFD}')?;
@@ -68,7 +69,7 @@ fn push_marks(text: &mut String, count: usize) -> Result<(), AllocError> {
     Ok(())
 }
 
-/// What a row says is read of its bytes.
+/// The reading of a row's bytes.
 fn reading_of(
     alloc: Global,
     bytes: &[u8],
@@ -91,13 +92,13 @@ fn reading_of(
     })
 }
 
-/// Asserts that each call reads this in an encoding.
+/// Asserts that each call returns this reading, in one encoding.
 fn assert_read(rt: &impl Abort, alloc: Global, flavor: Flavor, bytes: &[u8], reading: &Reading) {
     let compared = expect_reading(alloc, flavor, bytes, reading);
     assert!(rt; compared.is_ok(), "{compared:?} of {bytes:?}");
 }
 
-/// Asserts that each call reads this in both encodings.
+/// Asserts that each call returns this reading, in both encodings.
 fn assert_read_alike(rt: &impl Abort, alloc: Global, bytes: &[u8], reading: &Reading) {
     assert_read(rt, alloc, Flavor::Cesu8, bytes, reading);
     assert_read(rt, alloc, Flavor::Mutf8, bytes, reading);
@@ -112,7 +113,7 @@ fn reads_rows(rt: HostRuntime) -> Result<(), Fail> {
     Ok(())
 }
 
-/// Each front and each back of a pair has as many U+FFFD as bytes.
+/// If a surrogate pair is cut in two, each byte of each part is replaced by U+FFFD.
 #[test]
 fn reads_cuts_of_a_pair(rt: HostRuntime) -> Result<(), Fail> {
     let pair = b"\xED\xA0\xBD\xED\xB2\x96";
@@ -125,8 +126,9 @@ fn reads_cuts_of_a_pair(rt: HostRuntime) -> Result<(), Fail> {
     Ok(())
 }
 
-/// Bytes that the encodings read otherwise, or that have damage between characters: their text in
-/// CESU-8 and in MUTF-8, how many U+FFFD of each are damage, and how many bytes precede it.
+/// Input with a different reading in each encoding, or with damage between characters: its text in
+/// CESU-8 and in MUTF-8, the number of damaged bytes, and the number of bytes before the first of
+/// them.
 static APART: [(&[u8], [&str; 2], [usize; 2], [usize; 2]); 9] = [
     (b"\0", ["\0", "\u{FFFD}"], [0, 1], [1, 0]),
     (
@@ -184,7 +186,7 @@ fn reads_each_encoding(rt: HostRuntime) -> Result<(), Fail> {
     Ok(())
 }
 
-/// Asserts that a scalar value is read, also by its text as a string.
+/// Asserts that a scalar value is decoded, and that `into_string` returns it.
 fn assert_border(
     rt: &impl Abort,
     alloc: Global,

@@ -1,4 +1,4 @@
-//! Decoding into buffers about the length that is needed, beside the plain decoder of the tests.
+//! Decoding to buffers of about the needed length, compared with the plain decoder.
 
 use std::alloc::{AllocError, Global};
 use std::ops::Range;
@@ -9,7 +9,7 @@ use test_cases::fills::{FILLS, Input, OTHER_FILLS};
 use test_cases::flavors::FLAVORS;
 use test_cases::slices::expect_slices;
 
-/// Asserts that each call does with these bytes what it has to.
+/// Asserts that each call that writes to a buffer agrees with the plain decoder for these bytes.
 fn assert_read(rt: &impl Abort, alloc: Global, bytes: &[u8]) {
     let compared = expect_slices(alloc, bytes);
     assert!(rt; compared.is_ok(), "{compared:?} of {bytes:?}");
@@ -25,7 +25,7 @@ fn decodes_the_borders(rt: HostRuntime) {
     }
 }
 
-/// No byte, each byte, and each with one that begins or follows in a character.
+/// No byte, each byte, and each byte followed by one that begins a character or continues one.
 #[test]
 fn decodes_few_bytes(rt: HostRuntime) {
     assert_read(&rt, rt.alloc(), &[]);
@@ -37,7 +37,7 @@ fn decodes_few_bytes(rt: HostRuntime) {
     }
 }
 
-/// Asserts that the bytes of a fill are read with another byte instead of the one at each place.
+/// Asserts that a fill is decoded correctly with another byte at each offset.
 fn assert_each_place(
     rt: &impl Abort,
     alloc: Global,
@@ -58,10 +58,11 @@ fn assert_each_place(
     Ok(())
 }
 
-/// Two bytes of ASCII, and bytes that by themselves are damage in UTF-8 and in both encodings.
+/// Two bytes of ASCII, and bytes that are damage in UTF-8 and in both encodings if they stand
+/// alone.
 const BYTES: [u8; 8] = [0x00, 0x7F, 0x80, 0xBF, 0xC3, 0xF0, 0xF7, 0xFF];
 
-/// One byte decides whether short ASCII is copied, wherever the decoders look for it.
+/// The fast path for short ASCII must see the other byte at each offset.
 #[test]
 fn decodes_short_ascii(rt: HostRuntime) -> Result<(), Fail> {
     for byte in BYTES {
@@ -86,12 +87,12 @@ fn decodes_ascii_of_64_bytes(rt: HostRuntime) -> Result<(), Fail> {
     Ok(())
 }
 
-/// The length of as many whole fills as have so many bytes or more.
+/// The length of the fewest whole fills that have at least `len` bytes.
 fn whole(fill: &[u8], len: usize) -> usize {
     len.div_ceil(fill.len().max(1)).saturating_mul(fill.len())
 }
 
-/// Text of some blocks, in which one byte is damaged.
+/// Text of several blocks in which one byte is damaged.
 #[test]
 fn decodes_a_damaged_byte_at_each_place(rt: HostRuntime) -> Result<(), Fail> {
     for fill in FILLS {
@@ -101,8 +102,8 @@ fn decodes_a_damaged_byte_at_each_place(rt: HostRuntime) -> Result<(), Fail> {
     Ok(())
 }
 
-/// Asserts that whole fills of about so many bytes are read with something put among them, before
-/// the fill at this place.
+/// Asserts that whole fills of about `len` bytes are decoded correctly with the bytes `put`
+/// inserted before the fill at about this offset.
 fn assert_put(
     rt: &impl Abort,
     alloc: Global,
@@ -119,7 +120,7 @@ fn assert_put(
     Ok(())
 }
 
-/// What is put among fills.
+/// The bytes that are inserted between fills.
 const PUT: [&[u8]; 5] = [
     b"",
     b"\xED\xA0\xBD\xED\xB2\x96",
@@ -128,7 +129,8 @@ const PUT: [&[u8]; 5] = [
     b"\xFF",
 ];
 
-/// Asserts that fills of these lengths are read with something put before, within and behind them.
+/// Asserts that fills of these lengths are decoded correctly with bytes inserted before, between
+/// and after them.
 fn assert_among(
     rt: &impl Abort,
     alloc: Global,
@@ -147,7 +149,7 @@ fn assert_among(
     Ok(())
 }
 
-/// Where a few bytes are read one after another, and where blocks begin and end.
+/// Lengths of a few bytes, and lengths near the borders of blocks.
 #[test]
 fn decodes_blocks(rt: HostRuntime) -> Result<(), Fail> {
     for fills in [FILLS.as_slice(), OTHER_FILLS.as_slice()] {
@@ -156,7 +158,7 @@ fn decodes_blocks(rt: HostRuntime) -> Result<(), Fail> {
     Ok(())
 }
 
-/// Where windows begin and end.
+/// Lengths near the borders of windows.
 #[test]
 fn decodes_short_windows(rt: HostRuntime) -> Result<(), Fail> {
     assert_among(&rt, rt.alloc(), &FILLS, &[256, 257, 1024])?;
@@ -182,7 +184,7 @@ fn decodes_windows_of_other_bytes(rt: HostRuntime) -> Result<(), Fail> {
     Ok(())
 }
 
-/// Each number of bytes behind the last block.
+/// Each number of bytes after the last block.
 #[test]
 fn decodes_text_of_each_length(rt: HostRuntime) -> Result<(), Fail> {
     for fill in &FILLS[2..] {
@@ -193,7 +195,7 @@ fn decodes_text_of_each_length(rt: HostRuntime) -> Result<(), Fail> {
     Ok(())
 }
 
-/// Characters that cross each border of what is summed up at once.
+/// Characters across each border of the groups of blocks whose counts are added up at once.
 #[test]
 fn decodes_text_across_borders(rt: HostRuntime) -> Result<(), Fail> {
     for fill in &FILLS[2..] {

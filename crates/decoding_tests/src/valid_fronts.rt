@@ -1,4 +1,4 @@
-//! How many bytes are whole encoded characters, where blocks begin and end, beside the plain decoder.
+//! The longest valid prefix, near the borders of blocks, compared with the plain decoder.
 
 use std::alloc::Global;
 use std::ops::Range;
@@ -8,7 +8,7 @@ use test_cases::fills::{FILLS, Input};
 use test_cases::flavors::{FLAVORS, valid_up_to};
 use test_cases::plain::read;
 
-/// Compares how many bytes are whole, in each encoding.
+/// Compares the length of the longest valid prefix, in each encoding.
 fn expect_front(alloc: Global, bytes: &[u8]) -> Result<(), Difference> {
     for flavor in FLAVORS {
         let valid = valid_up_to(flavor, bytes);
@@ -18,7 +18,7 @@ fn expect_front(alloc: Global, bytes: &[u8]) -> Result<(), Difference> {
     Ok(())
 }
 
-/// Something at each of some places among these.
+/// Compares the valid prefix if `put` is inserted at each of some offsets of a fill.
 fn expect_at(
     alloc: Global,
     fill: &[u8],
@@ -38,8 +38,7 @@ fn expect_at(
     Ok(())
 }
 
-/// A byte, as many as the next character can reach over the end of a block, half of a surrogate pair,
-/// and a pair whose last byte is missing.
+/// One damaged byte, four of them, half of a surrogate pair, and a pair whose last byte is missing.
 static DAMAGE: [&[u8]; 4] = [
     b"\xFF",
     b"\xFF\xFF\xFF\xFF",
@@ -47,7 +46,7 @@ static DAMAGE: [&[u8]; 4] = [
     b"\xED\xA0\xBD\xED\xB2",
 ];
 
-/// The first block has 32 bytes, each step behind it 64.
+/// The first block has 32 bytes, and each step after it 64.
 #[test]
 fn finds_damage_about_the_ends_of_blocks(rt: HostRuntime) -> Result<(), Fail> {
     for put in &DAMAGE {
@@ -60,7 +59,7 @@ fn finds_damage_about_the_ends_of_blocks(rt: HostRuntime) -> Result<(), Fail> {
     Ok(())
 }
 
-/// Where the last block begins in the one before it.
+/// Lengths for which the last block overlaps the one before it.
 #[test]
 fn finds_damage_about_the_end(rt: HostRuntime) -> Result<(), Fail> {
     for put in &DAMAGE {

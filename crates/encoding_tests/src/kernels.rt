@@ -1,4 +1,4 @@
-//! Which lists of bytes the kernels return true for.
+//! Tests of the kernels: for which bytes each returns true.
 
 ghost use Rattle.std.specs.Prelude.{◌≤◌};
 
@@ -6,8 +6,8 @@ use simd_cesu8::implementation::{active, fallback, simd, word};
 use std::ops::RangeInclusive;
 use std::process::Abort;
 
-/// What a module's two kernels return: whether some byte is F0 to F7, and whether some is 00 or one
-/// of these.
+/// What a module's two kernels return: whether some byte is F0 to F7, and whether some byte is 00
+/// or F0 to F7.
 macro_rules! results {
     ($module:ident, $bytes:ident) => {
         [
@@ -17,7 +17,7 @@ macro_rules! results {
     };
 }
 
-/// The first module whose kernels return other than these on a list.
+/// The first module whose kernels do not return these values for the bytes.
 fn first_wrong(bytes: &[u8], four: bool, null_four: bool) -> Option<&'static str> {
     let expected = [four, null_four];
     if results!(fallback, bytes) != expected {
@@ -33,13 +33,14 @@ fn first_wrong(bytes: &[u8], four: bool, null_four: bool) -> Option<&'static str
     }
 }
 
-/// Asserts that each module's kernels return these.
+/// Asserts that each module's kernels return these values for the bytes.
 fn assert_right(rt: &impl Abort, bytes: &[u8], four: bool, null_four: bool) {
     let wrong = first_wrong(bytes, four, null_four);
     assert_eq!(rt; wrong, None, "of {} bytes: {bytes:?}", bytes.len());
 }
 
-/// Bytes at the borders of the classes, and whether each is F0 to F7, and 00 or one of these.
+/// Bytes at the borders of the classes, with two facts: whether each is F0 to F7, and whether it is
+/// 00 or F0 to F7.
 static BYTES: [(u8, bool, bool); 14] = [
     (0x00, false, true),
     (0x01, false, false),
@@ -57,7 +58,7 @@ static BYTES: [(u8, bool, bool); 14] = [
     (0xFF, false, false),
 ];
 
-/// Lists that an inexact test of a word, or a walk that leaves out a word, gets wrong.
+/// Input for which a kernel is wrong if its test of a word is inexact, or if it skips a word.
 #[test]
 fn finds_bytes_in_short_lists(rt: HostRuntime) {
     assert_right(&rt, b"", false, false);
@@ -69,7 +70,7 @@ fn finds_bytes_in_short_lists(rt: HostRuntime) {
     assert_right(&rt, b"aaaaaaaa\xF0", true, true);
 }
 
-/// Asserts that one byte that is sought is found in a list of this length.
+/// Asserts that one byte F7 is found at this offset in input of this length.
 fn assert_found_at(rt: &impl Abort, len: usize, place: usize) {
     let mut bytes = [0x61; 128];
     if let Some(byte) = bytes.get_mut(place) {
@@ -78,7 +79,7 @@ fn assert_found_at(rt: &impl Abort, len: usize, place: usize) {
     assert_right(rt, bytes.get(..len).unwrap_or(&[]), true, true);
 }
 
-/// One byte that is sought, at the borders of the vectors' widths.
+/// One byte F7 near the borders of the vectors.
 #[test]
 fn finds_a_byte_in_a_long_list(rt: HostRuntime) {
     assert_right(&rt, &[0x61; 127], false, false);
@@ -88,8 +89,8 @@ fn finds_a_byte_in_a_long_list(rt: HostRuntime) {
     }
 }
 
-/// The first length, place and byte at which a kernel is wrong, where each byte of the table stands at
-/// each place of a list of each length, filled with a byte that neither kernel seeks.
+/// The first length, offset and byte for which a kernel is wrong. Input of each length is filled
+/// with a byte that neither kernel searches for, and each byte of the table is put at each offset.
 fn first_wrong_place(fill: u8, lengths: RangeInclusive<usize>) -> Option<(usize, usize, u8)> {
     let mut bytes = [fill; 200];
     for len in lengths {
@@ -107,7 +108,7 @@ fn first_wrong_place(fill: u8, lengths: RangeInclusive<usize>) -> Option<(usize,
     None
 }
 
-/// Asserts that there is none.
+/// Asserts that no kernel is wrong for these lengths.
 fn assert_found(rt: &impl Abort, fill: u8, lengths: RangeInclusive<usize>) {
     assert_eq!(rt; first_wrong_place(fill, lengths), None);
 }
@@ -212,7 +213,7 @@ fn finds_a_byte_among_ff_up_to_200(rt: HostRuntime) {
     assert_found(&rt, 0xFF, 187..=200);
 }
 
-/// Asserts what the kernels return on a list of one byte, of each length but 0.
+/// Asserts what the kernels return for one repeated byte, for each length but 0.
 fn assert_filled(rt: &impl Abort, fill: u8, four: bool, null_four: bool) {
     let bytes = [fill; 200];
     for len in 1..201 {
@@ -220,7 +221,7 @@ fn assert_filled(rt: &impl Abort, fill: u8, four: bool, null_four: bool) {
     }
 }
 
-/// A list of one byte that is sought or is not, of each length.
+/// One repeated byte, which a kernel searches for or not, of each length.
 #[test]
 fn finds_a_byte_that_fills_a_list(rt: HostRuntime) {
     assert_right(&rt, &[], false, false);

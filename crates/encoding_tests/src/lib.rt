@@ -1,5 +1,5 @@
-//! Tests of the calls of `simd_cesu8` that encode, on values that were not computed by them, and of
-//! its kernels.
+//! Tests of the calls of `simd_cesu8` that encode, and of its kernels. The expected values were not
+//! computed by them.
 #![tactic(auto)]
 
 #[cfg(test)]

@@ -1,6 +1,6 @@
-//! Long texts: characters that an encoding changes at each place of ASCII, the pattern many times
-//! over, and a hundred texts of the pattern's widths: characters of one, two, three and four bytes of
-//! UTF-8, then U+0000, then characters of two, three and four, again and again.
+//! Long strings: characters that an encoding changes at each offset of ASCII, the repeated pattern,
+//! and a hundred strings of the pattern's widths: characters of one, two, three and four bytes of
+//! UTF-8, then U+0000, then characters of two, three and four, repeated.
 
 use std::alloc::{AllocError, Global};
 use std::ops::Range;
@@ -13,12 +13,12 @@ use test_cases::flavors::{FLAVORS, Flavor, decoded_len, encode, encoded_len, los
 use test_cases::pattern::{PATTERN, encoded_pattern};
 use test_cases::plain::encoded;
 
-/// So many kinds of bytes, 91, that bytes that are lost, doubled or moved are seen: no loop goes by a
-/// divisor of it.
+/// The test's ASCII has 91 different bytes, so that a lost, doubled or moved byte is seen: no loop
+/// advances by a divisor of 91.
 const ASCII: &[u8] =
     b"!#$%&'()*+,-./0123456789:;<=>?@ABCDEFGHIJKLMNOPQRSTUVWXYZ[]^_`abcdefghijklmnopqrstuvwxyz{|}";
 
-/// So much ASCII, with bytes put before one of its places.
+/// ASCII of length `len`, with the bytes `put` inserted at one offset.
 fn among_ascii(alloc: Global, len: usize, put: &[u8], place: usize) -> Result<Vec<u8>, AllocError> {
     let input = Input {
         fill: ASCII,
@@ -29,7 +29,7 @@ fn among_ascii(alloc: Global, len: usize, put: &[u8], place: usize) -> Result<Ve
     input.inserted(alloc)
 }
 
-/// Compares the encodings of so much ASCII with a character at each of its places.
+/// Compares the encodings of ASCII of length `len`, with a character inserted at each offset.
 fn expect_changed(
     alloc: Global,
     flavor: Flavor,
@@ -59,7 +59,7 @@ fn encodes_a_changed_byte_at_every_place(rt: HostRuntime) -> Result<(), Fail> {
     Ok(())
 }
 
-/// Compares what a long text becomes, and what is read of that.
+/// Compares the encoding of a long string, and what the encoding is decoded to.
 fn expect_both_ways(
     alloc: Global,
     flavor: Flavor,
@@ -95,7 +95,8 @@ fn expect_both_ways(
     Ok(())
 }
 
-/// Compares what so many patterns become, which have these lengths in UTF-8 and in the encoding.
+/// Encodes and decodes the pattern, repeated `times` times. The lengths are those in UTF-8 and in
+/// the encoding.
 fn expect_pattern(
     alloc: Global,
     flavor: Flavor,
@@ -124,9 +125,9 @@ fn encodes_and_decodes_the_pattern(rt: HostRuntime) -> Result<(), Fail> {
     Ok(())
 }
 
-// The characters of each width, drawn in turn. The lists' lengths have no divisor in common with
-// one another, or with the draws for a text, 819 from `ONE` and 1,638 from each other list, so no
-// two texts are the same.
+// The characters of each width, taken in turn. The lists' lengths have no divisor in common with
+// one another. Nor have they one with the number of characters that a string takes, which is 819
+// from `ONE` and 1,638 from each other list. So no two strings are the same.
 static ONE: [u32; 8] = [0x1, 0x9, 0xA, 0x20, 0x30, 0x41, 0x7A, 0x7F];
 
 static TWO: [u32; 11] = [
@@ -143,16 +144,16 @@ static FOUR: [u32; 19] = [
     0x30000, 0x3FFFF, 0x40000, 0x7FFFF, 0x80000, 0xE0001, 0xFFFFF, 0x100000, 0x10FFFF,
 ];
 
-/// How many characters a text has: 819 groups of eight.
+/// The number of characters of a string: 819 groups of eight.
 const CHARACTERS: u32 = 8 * 819;
 
-/// The scalar value that comes at this number, where those of a list come in turn.
+/// The scalar value with this number, if those of the list are taken in turn.
 fn drawn(list: &[u32], number: usize) -> u32 {
     let place = number.checked_rem(list.len()).unwrap_or(0);
     list.get(place).copied().unwrap_or(0)
 }
 
-/// The scalar value of this number among those of all texts.
+/// The scalar value with this number among those of all strings.
 fn scalar_at(number: u32) -> u32 {
     let group = number as usize / 8;
     let first = group.wrapping_mul(2);
@@ -169,7 +170,7 @@ fn scalar_at(number: u32) -> u32 {
     }
 }
 
-/// A text and the bytes that it is in the encoding.
+/// A string and its encoding.
 fn text_and_bytes(
     alloc: Global,
     flavor: Flavor,
@@ -185,7 +186,7 @@ fn text_and_bytes(
     Ok((text, bytes))
 }
 
-/// Encodes and decodes some of the texts.
+/// Encodes and decodes the strings with these numbers.
 fn expect_texts(alloc: Global, numbers: Range<u32>) -> Result<(), Difference> {
     for number in numbers {
         for flavor in FLAVORS {

@@ -1,4 +1,4 @@
-//! How texts and encodings compare, and how the code units of the texts do.
+//! The order of strings, of their encodings and of their code units.
 
 use crate::asserts::{assert_same, text_of};
 use std::alloc::{AllocError, Global};
@@ -11,14 +11,14 @@ use test_cases::comparisons::{Difference, expect};
 use test_cases::flavors::{Flavor, encode};
 use test_cases::plain::units;
 
-/// How the code units of two texts compare.
+/// Compares the code units of two strings.
 fn compare_units(alloc: Global, first: &str, second: &str) -> Result<Ordering, AllocError> {
     let first = units(alloc, first)?;
     let second = units(alloc, second)?;
     Ok(first.as_slice().cmp(second.as_slice()))
 }
 
-/// How the encodings of two texts compare.
+/// Compares the encodings of two strings.
 fn compare_encodings(
     alloc: Global,
     flavor: Flavor,
@@ -30,15 +30,15 @@ fn compare_encodings(
     Ok(first.as_bytes().cmp(second.as_bytes()))
 }
 
-/// Whether these are U+0000 and another scalar value of one byte, which MUTF-8 orders the other way:
-/// U+0000 is C0 80 there.
+/// Whether MUTF-8 reverses the order of these scalar values: it does if one is U+0000, which is C0
+/// 80 there, and the other has one byte.
 fn is_reversed(flavor: Flavor, first: &Border, second: &Border) -> bool {
     let is_ascii = first.utf8.len() == 1 && second.utf8.len() == 1;
     let is_null = first.name == "U+0000";
     flavor == Flavor::Mutf8 && is_ascii && is_null != (second.name == "U+0000")
 }
 
-/// Compares how the encodings of two scalar values compare with how their code units do.
+/// Tests that the encodings of two scalar values are in the order of their code units.
 fn expect_as_units(
     alloc: Global,
     flavor: Flavor,
@@ -53,7 +53,7 @@ fn expect_as_units(
     expect(alloc, flavor, "encode", order, expected)
 }
 
-/// Asserts that the encodings of a scalar value and of each compare as they have to.
+/// Asserts that the encodings of one scalar value and of each in the table are in the right order.
 fn assert_as_units(rt: &impl Abort, alloc: Global, flavor: Flavor, first: &Border) {
     for second in &BORDERS {
         let compared = expect_as_units(alloc, flavor, first, second);
@@ -61,7 +61,7 @@ fn assert_as_units(rt: &impl Abort, alloc: Global, flavor: Flavor, first: &Borde
     }
 }
 
-/// Each scalar value with each.
+/// Each scalar value of the table with each.
 #[test]
 fn orders_the_borders_by_code_units(rt: HostRuntime) {
     for first in &BORDERS {
@@ -70,7 +70,7 @@ fn orders_the_borders_by_code_units(rt: HostRuntime) {
     }
 }
 
-/// Compares how the first of two texts compares by UTF-8, by code units, in CESU-8 and in MUTF-8.
+/// Tests the order of two strings by UTF-8, by code units, in CESU-8 and in MUTF-8.
 fn expect_orders(
     alloc: Global,
     (first, second): (&str, &str),
@@ -90,7 +90,7 @@ fn expect_orders(
     Ok(())
 }
 
-/// Two texts, and how the first compares by UTF-8, by code units, in CESU-8 and in MUTF-8.
+/// Two strings, and their order by UTF-8, by code units, in CESU-8 and in MUTF-8.
 static EXAMPLES: [(&str, &str, Ordering, [Ordering; 3]); 4] = [
     ("\u{FFFF}", "\u{10000}", Less, [Greater, Greater, Greater]),
     ("\u{E000}", "\u{10FFFF}", Less, [Greater, Greater, Greater]),
@@ -106,7 +106,7 @@ fn orders_examples(rt: HostRuntime) {
     }
 }
 
-/// A text of a character so many times, and an end.
+/// A string of one character, repeated `len` times, and an end.
 fn with_front(alloc: Global, front: char, len: usize, end: &str) -> Result<String, AllocError> {
     let mut text = String::new(alloc);
     for _place in 0..len {
@@ -116,7 +116,8 @@ fn with_front(alloc: Global, front: char, len: usize, end: &str) -> Result<Strin
     Ok(text)
 }
 
-/// Compares `compare_as_utf16` of two texts with how their code units compare, both ways.
+/// Tests that `compare_as_utf16` of two strings, either way round, returns the order of their code
+/// units.
 fn expect_order(alloc: Global, first: &str, second: &str) -> Result<(), Difference> {
     let units = compare_units(alloc, first, second)?;
     for (one, other, expected) in [(first, second, units), (second, first, units.reverse())] {
@@ -126,7 +127,8 @@ fn expect_order(alloc: Global, first: &str, second: &str) -> Result<(), Differen
     Ok(())
 }
 
-/// Each of the ends with each, behind fronts of each length about the words that are compared at once.
+/// Each of the ends with each, after equal prefixes of up to 20 characters. Several bytes are
+/// compared at once, so the strings differ at each place of such a word.
 #[test]
 fn compares_behind_equal_fronts(rt: HostRuntime) -> Result<(), Fail> {
     let ends = [
@@ -158,7 +160,7 @@ fn compares_behind_equal_fronts(rt: HostRuntime) -> Result<(), Fail> {
     Ok(())
 }
 
-/// Compares a text with each scalar value at a border, behind a front.
+/// Compares a string with one character, followed by each scalar value of the table.
 fn expect_with_each(alloc: Global, first: &str, front: char) -> Result<(), Difference> {
     for second in &BORDERS {
         let second = with_front(alloc, front, 1, text_of(second))?;
@@ -167,7 +169,7 @@ fn expect_with_each(alloc: Global, first: &str, front: char) -> Result<(), Diffe
     Ok(())
 }
 
-/// Compares each scalar value at a border with each, behind a front.
+/// Compares each scalar value of the table with each, after the same character.
 fn expect_behind(alloc: Global, front: char) -> Result<(), Difference> {
     for first in &BORDERS {
         let first = with_front(alloc, front, 1, text_of(first))?;
@@ -176,7 +178,7 @@ fn expect_behind(alloc: Global, front: char) -> Result<(), Difference> {
     Ok(())
 }
 
-/// Each scalar value at a border with each, behind each.
+/// Each scalar value of the table with each, after each.
 #[test]
 fn compares_the_borders(rt: HostRuntime) -> Result<(), Fail> {
     for front in &BORDERS {

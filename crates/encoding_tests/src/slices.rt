@@ -1,4 +1,4 @@
-//! Encoding into buffers of each length up to one byte more than is needed.
+//! Encoding to buffers of each length up to one byte more than is needed.
 
 use crate::asserts::{assert_same, text_of};
 use std::alloc::Global;
@@ -13,7 +13,7 @@ use test_cases::pattern::{PATTERN, encoded_pattern};
 use test_cases::plain::encoded;
 use test_cases::slices::{SliceCall, expect_in_rooms};
 
-/// Compares the call in each buffer.
+/// Compares the call with each buffer.
 fn expect_in_each_room(
     alloc: Global,
     flavor: Flavor,
@@ -24,7 +24,7 @@ fn expect_in_each_room(
     expect_in_rooms(alloc, flavor, SliceCall::Encode(text), Some(bytes), rooms)
 }
 
-/// Compares the call on a scalar value, in both encodings.
+/// Compares the call for a scalar value, in both encodings.
 fn expect_border(alloc: Global, border: &Border) -> Result<(), Difference> {
     for flavor in FLAVORS {
         expect_in_each_room(alloc, flavor, text_of(border), border.encoded(flavor))?;
@@ -39,13 +39,12 @@ fn encodes_the_borders(rt: HostRuntime) {
     }
 }
 
-/// About the lengths at which the encoder goes another way.
+/// Lengths near those at which the encoder changes its strategy.
 const LENGTHS: [usize; 23] = [
     0, 1, 3, 15, 28, 29, 31, 32, 33, 59, 60, 61, 63, 64, 65, 96, 123, 125, 127, 128, 129, 160, 200,
 ];
 
-/// ASCII of so many bytes, alone, and with a character that changes before it, within it and behind
-/// it.
+/// ASCII of length `len`, with a character before it, inside it and after it.
 fn expect_among_ascii(alloc: Global, len: usize, character: &str) -> Result<(), Difference> {
     for place in [0, len / 2, len] {
         let put = character.as_bytes();
@@ -76,7 +75,7 @@ fn encodes_characters_among_ascii(rt: HostRuntime) -> Result<(), Fail> {
     Ok(())
 }
 
-/// Compares the call on 819 patterns, in no room and in rooms of about these lengths.
+/// Compares the call for 819 patterns, with an empty buffer and with buffers of these lengths.
 fn expect_pattern(alloc: Global, flavor: Flavor, rooms: Range<usize>) -> Result<(), Difference> {
     let utf8 = repeated(alloc, PATTERN, 819)?;
     let call = SliceCall::Encode(str::from_utf8(utf8.as_slice()).unwrap_or(""));

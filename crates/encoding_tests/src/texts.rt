@@ -1,4 +1,4 @@
-//! Short texts, by each call that encodes or appends.
+//! Short strings, with each call that encodes or appends.
 
 use crate::asserts::{assert_same, text_of};
 use std::alloc::Global;
@@ -9,7 +9,7 @@ use test_cases::comparisons::{Difference, expect_appended, expect_encoding};
 use test_cases::flavors::{FLAVORS, Flavor, encode_into};
 use test_cases::plain::encoded;
 
-/// Texts, and their bytes in CESU-8 and in MUTF-8.
+/// Strings, and their bytes in CESU-8 and in MUTF-8.
 static TEXTS: [(&str, [&[u8]; 2]); 10] = [
     ("", [b"", b""]),
     ("Hello, world!", [b"Hello, world!", b"Hello, world!"]),
@@ -29,7 +29,7 @@ static TEXTS: [(&str, [&[u8]; 2]); 10] = [
     ),
 ];
 
-/// Compares what is built and what is appended of a text, in both encodings.
+/// Compares what the calls build and append for a string, in both encodings.
 fn expect_text(alloc: Global, text: &str, both: [&[u8]; 2]) -> Result<(), Difference> {
     for flavor in FLAVORS {
         let bytes = flavor.of(both);
@@ -46,7 +46,7 @@ fn encodes_texts(rt: HostRuntime) {
     }
 }
 
-/// Compares what is built of a scalar value, in both encodings.
+/// Compares what the calls build for a scalar value, in both encodings.
 fn expect_border(alloc: Global, border: &Border) -> Result<(), Difference> {
     let text = text_of(border);
     expect_encoding(alloc, Flavor::Cesu8, text, border.encoded(Flavor::Cesu8))?;
@@ -60,7 +60,7 @@ fn encodes_the_borders(rt: HostRuntime) {
     }
 }
 
-/// Texts, and their bytes in CESU-8.
+/// Strings, and their bytes in CESU-8.
 static APPENDED: [(&str, &[u8]); 4] = [
     ("E", b"E"),
     ("\u{205}", b"\xC8\x85"),
@@ -79,7 +79,8 @@ fn appends_to_a_cleared_buffer(rt: HostRuntime) -> Result<(), Fail> {
     Ok(())
 }
 
-/// A request that is granted changes the capacity, and a thousand small ones would be slow.
+/// Each allocation changes the capacity, so counting the changes counts the allocations. A thousand
+/// small ones would be slow.
 #[test]
 fn makes_few_requests(rt: HostRuntime) -> Result<(), Fail> {
     let mut buf = Vec::new(rt.alloc());
@@ -94,7 +95,7 @@ fn makes_few_requests(rt: HostRuntime) -> Result<(), Fail> {
     Ok(())
 }
 
-/// Compares the encodings of two bytes, if they are UTF-8, and returns whether they are.
+/// Compares the encodings of two bytes if they are UTF-8, and returns whether they are.
 fn expect_if_text(alloc: Global, pair: u16) -> Result<bool, Difference> {
     let utf8 = pair.to_be_bytes();
     let Ok(text) = str::from_utf8(&utf8) else {
@@ -107,7 +108,7 @@ fn expect_if_text(alloc: Global, pair: u16) -> Result<bool, Difference> {
     Ok(true)
 }
 
-/// Each text of two bytes of UTF-8: 128 times 128 pairs of ASCII, and 30 lead bytes with 64
+/// All strings whose UTF-8 has two bytes: 128 times 128 pairs of ASCII, and 30 lead bytes with 64
 /// continuation bytes each.
 #[test]
 fn encodes_two_bytes(rt: HostRuntime) -> Result<(), Fail> {

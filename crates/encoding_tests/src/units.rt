@@ -1,4 +1,4 @@
-//! How many UTF-16 code units a text has.
+//! The number of UTF-16 code units of a string.
 
 use crate::asserts::text_of;
 use std::alloc::{AllocError, Global};
@@ -11,7 +11,7 @@ use test_cases::fills::{Input, repeated};
 use test_cases::flavors::Flavor;
 use test_cases::pattern::PATTERN;
 
-/// Asserts how many code units are counted in a text.
+/// Asserts the number of code units that are counted in a string.
 fn assert_counted(rt: &impl Abort, text: &str, units: usize) {
     assert_eq!(rt; simd_cesu8::utf16_len(text), units, "in {text:?}");
 }
@@ -27,7 +27,8 @@ fn counts_examples(rt: HostRuntime) {
     assert_counted(&rt, "\0\0\u{1F496}\0", 5);
 }
 
-/// One code unit below U+10000, whose UTF-8 is the first of four bytes, and else two.
+/// A scalar value below U+10000 has one code unit. The others, whose UTF-8 has four bytes, have
+/// two.
 #[test]
 fn counts_the_borders(rt: HostRuntime) {
     for row in &BORDERS {
@@ -36,14 +37,14 @@ fn counts_the_borders(rt: HostRuntime) {
     }
 }
 
-/// Compares how many code units are counted in a text, given as UTF-8, with their number.
+/// Compares the number of code units that are counted in a string, given as UTF-8.
 fn expect_units(alloc: Global, utf8: &[u8], units: usize) -> Result<(), Difference> {
     let text = str::from_utf8(utf8).unwrap_or("");
     let counted = simd_cesu8::utf16_len(text);
     expect(alloc, Flavor::Cesu8, "utf16_len", counted, units)
 }
 
-/// The pattern has eight characters, of which two are surrogate pairs.
+/// The pattern has eight characters, two of which are surrogate pairs.
 #[test]
 fn counts_the_pattern(rt: HostRuntime) -> Result<(), Fail> {
     let mut units = 0usize;
@@ -57,7 +58,7 @@ fn counts_the_pattern(rt: HostRuntime) -> Result<(), Fail> {
     Ok(())
 }
 
-/// Compares what is counted of so much ASCII with a character at each of its places.
+/// Compares what is counted in ASCII of length `len`, with a character inserted at each offset.
 fn expect_counted(
     alloc: Global,
     character: &str,
@@ -72,7 +73,7 @@ fn expect_counted(
     Ok(())
 }
 
-/// So many letters, with a character put before one of their places.
+/// ASCII of length `len`, with a character inserted at one offset.
 fn among_letters(
     alloc: Global,
     len: usize,

@@ -1,10 +1,10 @@
-//! What a refused request for memory becomes where a call's fault is returned.
+//! What a failed allocation becomes in a function that returns an error of this crate.
 
 use java_text::{ReadFault, WriteFault};
 use std::alloc::{AllocError, AllocFailed, Global};
 use std::test::Fail;
 
-/// Copies bytes one by one: `?` makes a fault of each request for memory that is refused.
+/// Copies bytes one by one. `?` turns a failed allocation into the error of a call that writes.
 fn copied_to_write(alloc: Global, bytes: &[u8]) -> Result<Vec<u8>, WriteFault> {
     let mut copy = Vec::with_capacity(alloc, 1)?;
     for byte in bytes {
@@ -13,7 +13,7 @@ fn copied_to_write(alloc: Global, bytes: &[u8]) -> Result<Vec<u8>, WriteFault> {
     Ok(copy)
 }
 
-/// The same with the fault of a call that reads.
+/// Like `copied_to_write`, but `?` turns it into the error of a call that reads.
 fn copied_to_read(alloc: Global, bytes: &[u8]) -> Result<Vec<u8>, ReadFault> {
     let mut copy = Vec::with_capacity(alloc, 1)?;
     for byte in bytes {

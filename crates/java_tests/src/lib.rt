@@ -1,4 +1,4 @@
-//! Tests of `java_text` by its public calls, on values that it did not compute.
+//! Tests of the public calls of `java_text`. The expected values were not computed by them.
 #![tactic(auto)]
 
 #[cfg(test)]

@@ -1,4 +1,5 @@
-//! What is read to a text, and to a buffer of the caller's of each length up to more than is needed.
+//! The calls that return a text, and the calls that write it to a buffer, of each length up to more
+//! than is needed.
 
 use crate::reading::Due::{Borrowed, Invalid, Owned, Truncated};
 use java_text::{
@@ -9,7 +10,7 @@ use std::alloc::{AllocError, Global};
 use std::test::Fail;
 use test_cases::slices::{buffer, holds};
 
-/// What is due: a text and the bytes behind its form, or a fault.
+/// What a call has to return: a text and the bytes after its form, or an error.
 #[derive(Clone, Copy, Debug)]
 enum Due<'a> {
     Borrowed(&'a str, &'a [u8]),
@@ -19,7 +20,7 @@ enum Due<'a> {
 }
 
 impl Due<'_> {
-    /// Whether it is what a call returned.
+    /// Whether a call returned this.
     fn is_returned(self, read: &Result<(CowText<'_>, &[u8]), ReadFault>) -> bool {
         match (self, read) {
             (Borrowed(want, after), Ok((text, rest))) => {
@@ -34,7 +35,7 @@ impl Due<'_> {
         }
     }
 
-    /// Whether it is what a call returned with a buffer, and left there.
+    /// Whether a call returned this and left it in its buffer.
     fn is_left(self, read: Result<(usize, &[u8]), ReadSliceFault>, buf: &[u8]) -> bool {
         match (self, read) {
             (Borrowed(text, after) | Owned(text, after), Ok((len, rest))) => {
@@ -58,7 +59,7 @@ const FOUR: &str = "\u{FFFD}\u{FFFD}\u{FFFD}\u{FFFD}";
 
 const PAIR: &[u8] = b"\x00\x06\xED\xA0\xBD\xED\xB2\x96\xFF";
 
-/// Bytes, and what is due strictly and lossily.
+/// Input, and what the strict and the lossy calls have to return.
 static ROWS: [(&[u8], Due<'_>, Due<'_>); 15] = [
     (b"", Truncated, Truncated),
     (b"\x00", Truncated, Truncated),
@@ -85,11 +86,10 @@ static ROWS: [(&[u8], Due<'_>, Due<'_>); 15] = [
     (b"\x00\x04\xF0\x9F\x92\x96", Invalid, Owned(FOUR, b"")),
 ];
 
-/// A call that returns or leaves something else than what is due, and the length of its buffer if
-/// it has one.
+/// A call with a wrong result, and the length of its buffer if it has one.
 type Wrong = (&'static str, Option<usize>);
 
-/// The first of the calls that return a text which returns something else.
+/// The first call that returns a text and has a wrong result.
 fn wrong_text(alloc: Global, bytes: &[u8], strict: Due<'_>, lossy: Due<'_>) -> Option<Wrong> {
     if !strict.is_returned(&read_utf(alloc, bytes)) {
         Some(("read_utf", None))
@@ -100,7 +100,7 @@ fn wrong_text(alloc: Global, bytes: &[u8], strict: Due<'_>, lossy: Due<'_>) -> O
     }
 }
 
-/// The first of the calls with a buffer, of each length up to 13, which leaves something else.
+/// The first call that writes to a buffer, of any length up to 13, and has a wrong result.
 fn wrong_buffer(
     alloc: Global,
     bytes: &[u8],

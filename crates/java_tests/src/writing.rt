@@ -1,5 +1,5 @@
-//! What is written to a vector and to a buffer of the caller's, of each length about the one that
-//! is needed.
+//! The call that appends to a vector, and the call that writes to a buffer, of each length near the
+//! needed one.
 
 use java_text::{WriteFault, WriteSliceFault, read_utf, write_utf, write_utf_to_slice};
 use std::alloc::{AllocError, Global};
@@ -7,10 +7,11 @@ use std::ops::Range;
 use std::test::Fail;
 use test_cases::slices::{buffer, holds};
 
-/// What is due for a text: its form, or the length of its MUTF-8 if that is too long.
+/// What a call has to write for a string: its form, or an error with the length of its MUTF-8 if
+/// that is too long.
 type Due<'a> = Result<&'a [u8], usize>;
 
-/// Whether `write_utf` appends what is due to what stands in a vector.
+/// Whether `write_utf` appends the right bytes to a vector that has some.
 fn is_appended(alloc: Global, text: &str, due: Due<'_>) -> Result<bool, AllocError> {
     let mut buf = vec![in alloc; 1, 2]?;
     let written = write_utf(text, &mut buf);
@@ -21,8 +22,8 @@ fn is_appended(alloc: Global, text: &str, due: Due<'_>) -> Result<bool, AllocErr
     })
 }
 
-/// Whether `write_utf_to_slice` does what is due in a buffer of this length, and writes nothing
-/// else.
+/// Whether `write_utf_to_slice` has the right result with a buffer of this length, and writes
+/// nothing else.
 fn is_written(alloc: Global, text: &str, due: Due<'_>, room: usize) -> Result<bool, AllocError> {
     let mut buf = buffer(alloc, room)?;
     let written = write_utf_to_slice(text, &mut buf[..]);
@@ -34,7 +35,7 @@ fn is_written(alloc: Global, text: &str, due: Due<'_>, room: usize) -> Result<bo
     Ok(written == want && holds(buf.as_slice(), front))
 }
 
-/// Some texts, and their forms.
+/// Some strings, and their forms.
 static FORMS: [(&str, &[u8]); 5] = [
     ("", b"\x00\x00"),
     ("A", b"\x00\x01A"),
@@ -43,10 +44,10 @@ static FORMS: [(&str, &[u8]); 5] = [
     ("\u{1F496}", b"\x00\x06\xED\xA0\xBD\xED\xB2\x96"),
 ];
 
-/// A call that writes, or fails, otherwise than is due, and the length of its buffer if it has one.
+/// A call with a wrong result, and the length of its buffer if it has one.
 type Wrong = (&'static str, Option<usize>);
 
-/// The first call that does something else than what is due, with buffers of these lengths.
+/// The first call with a wrong result, with buffers of these lengths.
 fn wrong_call(
     alloc: Global,
     text: &str,
@@ -73,7 +74,7 @@ fn writes_forms(rt: HostRuntime) -> Result<(), Fail> {
     Ok(())
 }
 
-/// Characters of one, two, three and six bytes of MUTF-8: themselves, and their MUTF-8.
+/// Characters of one, two, three and six bytes of MUTF-8, and this MUTF-8.
 static CHARACTERS: [(&str, &[u8]); 5] = [
     ("A", b"A"),
     ("\0", b"\xC0\x80"),
@@ -82,7 +83,7 @@ static CHARACTERS: [(&str, &[u8]); 5] = [
     ("\u{1F496}", b"\xED\xA0\xBD\xED\xB2\x96"),
 ];
 
-/// Lengths of MUTF-8, and the two bytes that count them. No two bytes count the last.
+/// Lengths of MUTF-8, and the two bytes of the count. The last length is too large for two bytes.
 static COUNTS: [(usize, &[u8]); 9] = [
     (0, b"\x00\x00"),
     (1, b"\x00\x01"),
@@ -95,8 +96,8 @@ static COUNTS: [(usize, &[u8]); 9] = [
     (65536, b""),
 ];
 
-/// A text whose MUTF-8 has this length, and its MUTF-8 behind the bytes that count it: the character
-/// as many times as it fits, and then `a`.
+/// A string whose MUTF-8 has this length, and its form with these bytes as the count. The string is
+/// the character as many times as it fits, and then `a`.
 fn counted(
     alloc: Global,
     (character, mutf8): (&str, &[u8]),
@@ -116,7 +117,8 @@ fn counted(
     Ok((text, form))
 }
 
-/// Whether a form is read as the text, with nothing behind it. What has no form need not be.
+/// Whether `read_utf` returns the string for its form, with no bytes left. A string without a form
+/// passes.
 fn is_read(alloc: Global, text: &str, due: Due<'_>) -> bool {
     match due {
         Ok(form) => match read_utf(alloc, form) {
@@ -127,7 +129,8 @@ fn is_read(alloc: Global, text: &str, due: Due<'_>) -> bool {
     }
 }
 
-/// The same for a text whose MUTF-8 has this length, with a call that reads it back.
+/// Like `wrong_call`, for a string whose MUTF-8 has this length, and with a call that reads the
+/// form.
 fn wrong_count(
     alloc: Global,
     character: (&str, &[u8]),

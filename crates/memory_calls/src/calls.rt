@@ -1,4 +1,4 @@
-//! The calls, by their names, and what came of each.
+//! The calls by their names, and the printing of their results.
 
 use crate::prints::{tell, tell_bytes, tell_length, yes_or_no};
 use crate::{faults, slices};
@@ -11,8 +11,8 @@ use std::{io, str};
 use test_cases::flavors;
 use test_cases::flavors::Flavor;
 
-/// Makes the requests and the calls that the line names, and prints what came of each call. Then it
-/// prints how many further requests are granted.
+/// Makes the allocations and the calls of the line, and prints the result of each call. Then it
+/// prints how many more allocations succeed.
 pub fn make_all(rt: &HostRuntime, line: &[u8], bytes: &[u8]) -> io::Result<()> {
     let Some((requests, calls)) = parse_line(line) else {
         return Err(ErrorKind::InvalidInput.into());
@@ -26,13 +26,13 @@ pub fn make_all(rt: &HostRuntime, line: &[u8], bytes: &[u8]) -> io::Result<()> {
     println!(rt; "{} more", granted(rt.alloc()))
 }
 
-/// How many requests come first, and the calls.
+/// The number of allocations to make first, and the calls.
 fn parse_line(line: &[u8]) -> Option<(u8, &str)> {
     let (requests, calls) = str::from_utf8(line).ok()?.split_once(' ')?;
     Some((requests.parse().ok()?, calls))
 }
 
-/// Makes a call on the bytes, and prints what came of it.
+/// Makes a call with the bytes, and prints its result.
 fn make(rt: &HostRuntime, call: &str, bytes: &[u8]) -> io::Result<()> {
     let Some((call, flavor)) = parse(call) else {
         return Err(ErrorKind::InvalidInput.into());
@@ -87,7 +87,7 @@ fn parse(call: &str) -> Option<(&str, Flavor)> {
     }
 }
 
-/// Makes a call that takes a text.
+/// Makes a call that takes a string.
 fn make_of_text(rt: &HostRuntime, call: &str, flavor: Flavor, text: &str) -> io::Result<()> {
     match call {
         "needs_encoded" => tell(rt, yes_or_no(flavors::needs_encoded(flavor, text)), &[]),
@@ -134,7 +134,7 @@ fn make_of_text(rt: &HostRuntime, call: &str, flavor: Flavor, text: &str) -> io:
     }
 }
 
-/// Asks the kernel of a module for the class of the encoding.
+/// Calls a module's kernel for the encoding.
 fn ask_kernel(rt: &HostRuntime, module: &str, flavor: Flavor, bytes: &[u8]) -> io::Result<()> {
     let found = match (module, flavor) {
         ("fallback", Flavor::Cesu8) => fallback::contains_utf8_4_byte_char_header(bytes),
@@ -180,7 +180,8 @@ fn use_laws() {
     java_text::laws::bounds();
 }
 
-/// Appends to a buffer, if there is one, and prints its bytes, after a refusal too.
+/// Appends to a buffer, if it could be allocated, and prints the buffer's bytes, also after an
+/// error.
 fn append(
     rt: &HostRuntime,
     buf: Result<Vec<u8>, AllocError>,
@@ -193,12 +194,13 @@ fn append(
     tell_appended(rt, flavors::encode_into(flavor, text, &mut buf), &buf)
 }
 
-/// Appends what was counted to a buffer, and prints its bytes, after a refusal too.
+/// Appends a counted string to a buffer, and prints the buffer's bytes, also after an error.
 fn append_counted(rt: &HostRuntime, mut buf: Vec<u8>, counted: CountedText<'_>) -> io::Result<()> {
     tell_appended(rt, counted.encode_into(&mut buf), &buf)
 }
 
-/// Writes a Java string to a buffer, if there is one, and prints its bytes, after a refusal too.
+/// Writes a Java string to a buffer, if it could be allocated, and prints the buffer's bytes, also
+/// after an error.
 fn write(rt: &HostRuntime, buf: Result<Vec<u8>, AllocError>, text: &str) -> io::Result<()> {
     let Ok(mut buf) = buf else {
         return tell(rt, "memory", &[]);
@@ -210,7 +212,7 @@ fn write(rt: &HostRuntime, buf: Result<Vec<u8>, AllocError>, text: &str) -> io::
     }
 }
 
-/// Makes a vector of an encoder's result. After a refusal it prints the caller's text.
+/// Makes a vector of an encoder's result. After an error it prints the caller's string.
 fn make_into_vec(rt: &HostRuntime, flavor: Flavor, text: &str) -> io::Result<()> {
     let copied = match flavors::encode(rt.alloc(), flavor, text) {
         Ok(encoded) => encoded.into_vec(rt.alloc()),
@@ -222,7 +224,7 @@ fn make_into_vec(rt: &HostRuntime, flavor: Flavor, text: &str) -> io::Result<()>
     }
 }
 
-/// Makes a string of the result of lenient decoding. After a refusal it prints the caller's bytes.
+/// Makes a string of the result of lenient decoding. After an error it prints the caller's bytes.
 fn make_into_string(rt: &HostRuntime, flavor: Flavor, bytes: &[u8]) -> io::Result<()> {
     let copied = match flavors::decode(rt.alloc(), flavor, bytes) {
         Ok(decoded) => decoded.into_string(rt.alloc()),
@@ -265,7 +267,8 @@ fn tell_appended(
     }
 }
 
-/// Prints the outcome with the buffer's capacity, which shows how much was requested, and its bytes.
+/// Prints the outcome with the buffer's capacity, which shows how much was allocated, and the
+/// buffer's bytes.
 fn tell_grown(rt: &HostRuntime, outcome: &str, buf: &Vec<u8>) -> io::Result<()> {
     println!(rt; "{outcome}, capacity {}", buf.capacity())?;
     tell_bytes(rt, buf.as_slice())
@@ -279,7 +282,7 @@ fn tell_lossy(rt: &HostRuntime, decoded: Result<CowText<'_>, AllocError>) -> io:
     tell_text(rt, decoded.map_err(DecodeFault::Memory))
 }
 
-/// Prints the text, and then the bytes after it as a line of their own.
+/// Prints the text, and then the bytes after the form on a line of their own.
 fn tell_read(rt: &HostRuntime, read: Result<(CowText<'_>, &[u8]), ReadFault>) -> io::Result<()> {
     match read {
         Ok((text, rest)) => {
@@ -292,7 +295,7 @@ fn tell_read(rt: &HostRuntime, read: Result<(CowText<'_>, &[u8]), ReadFault>) ->
     }
 }
 
-/// How many of three requests are granted before one is refused.
+/// How many of three allocations succeed before one fails.
 fn granted(alloc: Global) -> u8 {
     for number in 0..3 {
         if Vec::<u8>::with_capacity(alloc, 1).is_err() {

@@ -1,4 +1,4 @@
-//! What the faults and the error are shown as.
+//! How the errors display.
 
 use crate::prints::{tell, yes_or_no};
 use java_text::{ReadFault, ReadSliceFault, WriteFault, WriteSliceFault};
@@ -7,7 +7,7 @@ use std::alloc::AllocError;
 use std::io;
 use std::io::ErrorKind;
 
-/// Prints each fault, that of the result first, and whether the error equals itself.
+/// Prints each error, that of the result first, and whether a `DecodingError` equals itself.
 pub fn show(rt: &HostRuntime, decoded: Result<CowText<'_>, DecodeFault>) -> io::Result<()> {
     let Err(fault) = decoded else {
         return Err(ErrorKind::InvalidInput.into());
@@ -27,7 +27,7 @@ fn show_error(rt: &HostRuntime, error: DecodingError) -> io::Result<()> {
     tell(rt, yes_or_no(error == error), &[])
 }
 
-/// Prints each fault of the calls on slices.
+/// Prints each error of the calls that write to a slice.
 fn show_slice_faults(rt: &HostRuntime, error: DecodingError) -> io::Result<()> {
     let Err(short) = simd_cesu8::encode_to_slice("a", &mut []) else {
         return Err(ErrorKind::InvalidInput.into());

@@ -1,10 +1,11 @@
-//! Makes calls of `simd_cesu8` and `java_text`, so that `tests/memory.sh` can refuse them one request
-//! for memory. What a process requests can be refused only in a process of its own.
+//! Makes calls of `simd_cesu8` and `java_text`, so that `tests/memory.sh` can make each of their
+//! allocations fail in turn. It is a program of its own because only a whole process's allocations
+//! can be made to fail.
 //!
-//! Standard input is a line, and then the input of the calls. The line has the number of requests
-//! that the program makes first, and each call with its encoding. The program prints the result of
-//! each call, with the bytes that it returned or left in a buffer. Then it prints how many of three
-//! further requests are granted before one is refused. It makes no others itself.
+//! Standard input is a line, and then the input of the calls. The line has a number of allocations
+//! to make first, and each call with its encoding. The program prints the result of each call, with
+//! the bytes that it returned or left in a buffer. Then it makes up to three more allocations, and
+//! prints how many succeed before one fails. It makes no others itself.
 #![tactic(auto)]
 
 mod calls;
@@ -15,13 +16,13 @@ mod slices;
 use std::io;
 use std::io::{ErrorKind, Read};
 
-/// More than any input has: 65,536 bytes, a surrogate pair and the line before them.
+/// Longer than any input: 65,536 bytes, a surrogate pair and the line before them.
 const ROOM: usize = 67_000;
 
 fn main(rt: HostRuntime) -> io::Result<()> {
     let mut room = [0; ROOM];
     let mut stdin = rt.reader();
-    // A file comes in one read. What comes in pieces is told to be wrong, and not cut short.
+    // A file is read at once. Input that comes in pieces is an error, so that it is never cut off.
     let len = stdin.read(&mut room)?;
     let rest = stdin.read(&mut [0])?;
     let input = &room[..len];

@@ -3,13 +3,13 @@
 use std::io;
 use std::io::Write;
 
-/// Prints what came of a call, and its bytes as a line of their own.
+/// Prints the outcome of a call, and its bytes on a line of their own.
 pub fn tell(rt: &HostRuntime, outcome: &str, bytes: &[u8]) -> io::Result<()> {
     println!(rt; "{outcome}")?;
     tell_bytes(rt, bytes)
 }
 
-/// Prints bytes as a line.
+/// Prints bytes on a line of their own.
 pub fn tell_bytes(rt: &HostRuntime, bytes: &[u8]) -> io::Result<()> {
     let mut stdout = io::writer(rt);
     stdout.write_all(bytes)?;

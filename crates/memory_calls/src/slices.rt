@@ -1,4 +1,4 @@
-//! The calls that write to a buffer of the caller's, and make no request.
+//! The calls that write to the caller's buffer, and allocate nothing.
 
 use crate::prints::{tell, tell_bytes};
 use java_text::{
@@ -9,10 +9,11 @@ use test_cases::decoders::Decoder;
 use test_cases::flavors::Flavor;
 use test_cases::slices::{SliceCall, SliceFault};
 
-/// More than any call here writes: U+FFFD for each of 65,536 bytes.
+/// Longer than any result here: U+FFFD for each of 65,536 bytes.
 const ROOM: usize = 200_000;
 
-/// Why a call writes nothing: its buffer is shorter than so many bytes, or the outcome of this name.
+/// Why a call writes nothing: its buffer is shorter than this many bytes, or the outcome with this
+/// name.
 enum Fault {
     TooShort(usize),
     Other(&'static str),
@@ -57,7 +58,8 @@ pub enum Call<'a> {
 }
 
 impl<'a> Call<'a> {
-    /// The call of a name, on these bytes. One that takes a text has none if they are no UTF-8.
+    /// The call with this name and this input. `None` if no call has the name, or if it takes a
+    /// string and the input is not UTF-8.
     pub fn of(name: &str, flavor: Flavor, bytes: &'a [u8]) -> Option<Call<'a>> {
         let decoder = match name {
             "encode_to_slice" => {
@@ -76,7 +78,8 @@ impl<'a> Call<'a> {
         Some(Call::Codec(flavor, SliceCall::Decode(decoder, bytes)))
     }
 
-    /// Writes to a buffer, and returns how many bytes, and what follows a Java string.
+    /// Writes to a buffer, and returns the number of bytes written, and the bytes after a Java
+    /// string.
     fn write(self, buf: &mut [u8]) -> Result<(usize, Option<&'a [u8]>), Fault> {
         let (len, rest) = match self {
             Call::Codec(flavor, call) => return Ok((call.write(flavor, buf)?, None)),
@@ -87,8 +90,8 @@ impl<'a> Call<'a> {
         Ok((len, Some(rest)))
     }
 
-    /// Makes the call with no buffer, so that it returns how long one has to be, and then with one that
-    /// is so long. Prints what that holds, and the bytes that follow a Java string.
+    /// Makes the call with an empty buffer, so that it returns the needed length, and then with a
+    /// buffer of this length. Prints what the buffer then holds, and the bytes after a Java string.
     pub fn make(self, rt: &HostRuntime) -> io::Result<()> {
         let mut room = [0; ROOM];
         let written = match self.write(&mut []) {

@@ -1,5 +1,6 @@
-//! Scalar values at the borders of the forms, with their bytes in UTF-8 and in both encodings.
-//! tests/peers.sh reads their names here, and tests/memory.sh their bytes too.
+//! The first and last scalar values of each encoded length, and some between, with their bytes in
+//! UTF-8 and in both encodings. tests/peers.sh reads their names here, and tests/memory.sh their
+//! bytes too.
 
 use crate::flavors::Flavor;
 
@@ -17,7 +18,8 @@ impl Border {
     }
 }
 
-/// A scalar value by its name and its bytes, of which the last stand for those that are left out.
+/// A scalar value by its name and its bytes. If MUTF-8 is left out, it is the CESU-8, and if that
+/// is left out too, it is the UTF-8.
 macro_rules! border {
     ($name:literal, $utf8:literal) => {
         border!($name, $utf8, $utf8)
@@ -34,7 +36,7 @@ macro_rules! border {
     };
 }
 
-/// The first and the last scalar value of each form, and some between.
+/// The first and last scalar values of each encoded length, and some between.
 pub static BORDERS: [Border; 21] = [
     border!("U+0000", b"\x00", b"\x00", b"\xC0\x80"),
     border!("U+0001", b"\x01"),

@@ -1,4 +1,4 @@
-//! Comparisons of the calls with what is expected, which return the first difference.
+//! Comparisons of the calls with the expected results. Each returns the first difference.
 
 use crate::decoders::{DECODERS, Decoder, Outcome, outcome_of};
 use crate::flavors::{
@@ -9,7 +9,7 @@ use crate::plain::{Reading, read};
 use std::alloc::{AllocError, Global};
 use std::fmt::Debug;
 
-/// Why a comparison fails: a call with another result than is expected, or out of memory.
+/// Why a comparison fails: a call has an unexpected result, or memory ran out.
 #[derive(Debug, Drop)]
 pub enum Difference {
     Result {
@@ -26,7 +26,7 @@ impl From<AllocError> for Difference {
     }
 }
 
-/// Compares what a call for an encoding returned with what is expected.
+/// Compares the result of a call for an encoding with the expected one.
 pub fn expect<T: PartialEq + Debug + Drop>(
     alloc: Global,
     flavor: Flavor,
@@ -45,7 +45,8 @@ pub fn expect<T: PartialEq + Debug + Drop>(
     })
 }
 
-/// Compares each call that builds, measures or appends an encoding with the text's bytes.
+/// Compares the result of each call that builds or measures an encoding with the string's bytes in
+/// it.
 pub fn expect_encoding(
     alloc: Global,
     flavor: Flavor,
@@ -75,7 +76,8 @@ pub fn expect_encoding(
     expect(alloc, flavor, "into_vec", owned.as_slice(), bytes)
 }
 
-/// Compares what the calls that append an encoding leave in a buffer that holds these bytes.
+/// Appends the string's encoding to a buffer that holds some bytes, with each call that appends,
+/// and compares what the buffer then holds.
 pub fn expect_appended(
     alloc: Global,
     flavor: Flavor,
@@ -108,7 +110,7 @@ pub fn expect_appended(
     )
 }
 
-/// Compares one call that decodes with the expected outcome.
+/// Compares the outcome of one call that decodes with the expected one.
 pub fn expect_outcome(
     alloc: Global,
     decoder: Decoder,
@@ -126,7 +128,8 @@ pub fn expect_outcome(
     )
 }
 
-/// Compares each call that decodes or measures what is read with the reading of the bytes.
+/// Compares the result of each call that decodes, or measures decoded text, with the bytes'
+/// reading.
 pub fn expect_reading(
     alloc: Global,
     flavor: Flavor,
@@ -152,7 +155,7 @@ pub fn expect_reading(
     Ok(())
 }
 
-/// The same in both encodings, with what the plain decoder reads.
+/// Compares the result of each call, in both encodings, with the reading of the plain decoder.
 pub fn expect_readings(alloc: Global, bytes: &[u8]) -> Result<(), Difference> {
     for flavor in FLAVORS {
         expect_reading(alloc, flavor, bytes, &read(alloc, flavor, bytes)?)?;

@@ -1,4 +1,5 @@
-//! The calls that decode, to go over in a loop, and their outcomes, to compare.
+//! The calls that decode as values, for loops over them, and their outcomes as values that can be
+//! compared.
 
 use crate::flavors::{Decoded, Flavor, decode, decode_lossy, decode_lossy_strict, decode_strict};
 use simd_cesu8::DecodeFault;
@@ -22,12 +23,12 @@ pub const DECODERS: [Decoder; 4] = [
 ];
 
 impl Decoder {
-    /// Whether it takes whole UTF-8 for its text.
+    /// Whether the call also accepts UTF-8.
     pub fn is_lenient(self) -> bool {
         matches!(self, Decoder::Lenient | Decoder::LossyLenient)
     }
 
-    /// Whether it puts U+FFFD for damage.
+    /// Whether the call replaces damage by U+FFFD.
     pub fn is_lossy(self) -> bool {
         matches!(self, Decoder::LossyStrict | Decoder::LossyLenient)
     }
@@ -65,7 +66,7 @@ pub enum Outcome<'a> {
     Memory,
 }
 
-/// The outcome of the call that returned this.
+/// The outcome of a call that returned this result.
 pub fn outcome_of<'a>(returned: &'a Decoded<'_>) -> Outcome<'a> {
     match returned {
         Ok(text) if text.is_borrowed() => Outcome::Borrowed(text.as_str()),

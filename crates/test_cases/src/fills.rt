@@ -1,9 +1,9 @@
-//! Long inputs: what fills them, again and again, and what is put among it.
+//! Long inputs: a few bytes that are repeated, and other bytes at one place among them.
 
 use std::alloc::{AllocError, Global};
 
-/// Characters of each width, and of one encoding alone. The last has two widths, so that windows and
-/// blocks cut it at each of its places.
+/// Characters of each width, of which some are valid in one encoding only. The last fill mixes
+/// three widths, so that the borders of windows and blocks fall on each of its bytes.
 pub const FILLS: [&[u8]; 6] = [
     b"a",
     b"\xC3\xA9",
@@ -13,10 +13,10 @@ pub const FILLS: [&[u8]; 6] = [
     b"\xED\x9F\xBFa\xED\xAF\xBF\xED\xBF\xBF",
 ];
 
-/// Whole UTF-8 that is no encoding, or of one alone, and damage.
+/// UTF-8 that is valid in CESU-8 alone or in neither encoding, and damage.
 pub const OTHER_FILLS: [&[u8]; 3] = [b"\0a", b"\xF0\x9F\x92\x96", b"\xFFa\x80"];
 
-/// These bytes, one after another.
+/// The concatenation of some bytes.
 pub fn joined(alloc: Global, parts: &[&[u8]]) -> Result<Vec<u8>, AllocError> {
     let mut bytes = Vec::new(alloc);
     for part in parts {
@@ -25,7 +25,7 @@ pub fn joined(alloc: Global, parts: &[&[u8]]) -> Result<Vec<u8>, AllocError> {
     Ok(bytes)
 }
 
-/// The bytes, again and again.
+/// The bytes, repeated.
 pub fn repeated(alloc: Global, bytes: &[u8], times: usize) -> Result<Vec<u8>, AllocError> {
     let mut all = Vec::new(alloc);
     for _ in 0..times {
@@ -34,15 +34,15 @@ pub fn repeated(alloc: Global, bytes: &[u8], times: usize) -> Result<Vec<u8>, Al
     Ok(all)
 }
 
-/// So many bytes of a fill.
+/// The first `len` bytes of a fill that is repeated.
 pub fn filled(alloc: Global, fill: &[u8], len: usize) -> Result<Vec<u8>, AllocError> {
     let mut bytes = repeated(alloc, fill, len.div_ceil(fill.len().max(1)))?;
     bytes.truncate(len);
     Ok(bytes)
 }
 
-/// A long input: so many bytes of a fill, and what is put among them at which place, over what stands
-/// there or between it.
+/// A long input: `len` bytes of a fill that is repeated, and the bytes `put` at offset `place`,
+/// either between the fill's bytes or instead of them.
 #[derive(Clone, Copy, Debug, Drop)]
 pub struct Input<'a> {
     pub fill: &'a [u8],
@@ -52,14 +52,14 @@ pub struct Input<'a> {
 }
 
 impl Input<'_> {
-    /// The fill, with what is put between its bytes.
+    /// The input with `put` inserted into the fill.
     pub fn inserted(&self, alloc: Global) -> Result<Vec<u8>, AllocError> {
         let filled = filled(alloc, self.fill, self.len)?;
         let (front, back) = filled.as_slice().split_at(self.place.min(filled.len()));
         joined(alloc, &[front, self.put, back])
     }
 
-    /// The fill, with what is put over its bytes.
+    /// The input with `put` instead of as many bytes of the fill.
     pub fn replaced(&self, alloc: Global) -> Result<Vec<u8>, AllocError> {
         let filled = filled(alloc, self.fill, self.len)?;
         let (front, over) = filled.as_slice().split_at(self.place.min(filled.len()));

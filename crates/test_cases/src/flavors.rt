@@ -1,4 +1,4 @@
-//! The calls that encode and decode, by the name of the encoding.
+//! The calls that encode and decode, with the encoding as an argument.
 
 use simd_cesu8::{
     CountedText, CowBytes, CowText, DecodeFault, DecodeSliceFault, LossySliceFault, TooShort, mutf8,
@@ -12,11 +12,11 @@ pub enum Flavor {
     Mutf8,
 }
 
-/// Each encoding.
+/// Both encodings.
 pub const FLAVORS: [Flavor; 2] = [Flavor::Cesu8, Flavor::Mutf8];
 
 impl Flavor {
-    /// The value that is for this encoding, of one for CESU-8 and one for MUTF-8.
+    /// Of two values, one for CESU-8 and one for MUTF-8, the one for this encoding.
     pub fn of<T: Copy>(self, both: [T; 2]) -> T {
         match self {
             Flavor::Cesu8 => both[0],
@@ -28,10 +28,10 @@ impl Flavor {
 /// What a call that decodes returns.
 pub type Decoded<'a> = Result<CowText<'a>, DecodeFault>;
 
-/// What a call that puts U+FFFD for damage returns.
+/// What a call that replaces damage by U+FFFD returns.
 pub type LossilyDecoded<'a> = Result<CowText<'a>, AllocError>;
 
-/// The call of this name for an encoding.
+/// Calls the function of this name for an encoding.
 macro_rules! call {
     ($flavor:ident, $name:ident($($argument:expr),*)) => {
         match $flavor {
@@ -41,77 +41,77 @@ macro_rules! call {
     };
 }
 
-/// Whether a text needs encoding.
+/// Whether the encoding of a string differs from its UTF-8.
 pub fn needs_encoded(flavor: Flavor, text: &str) -> bool {
     call!(flavor, needs_encoded(text))
 }
 
-/// The encoding.
+/// Encodes a string.
 pub fn encode(alloc: Global, flavor: Flavor, text: &str) -> Result<CowBytes<'_>, AllocError> {
     call!(flavor, encode(alloc, text))
 }
 
-/// Appends an encoding.
+/// Appends the encoding of a string to a buffer.
 pub fn encode_into(flavor: Flavor, text: &str, buf: &mut Vec<u8>) -> Result<(), AllocError> {
     call!(flavor, encode_into(text, buf))
 }
 
-/// Encodes into a buffer of the caller's.
+/// Encodes a string to the caller's buffer.
 pub fn encode_to_slice(flavor: Flavor, text: &str, buf: &mut [u8]) -> Result<usize, TooShort> {
     call!(flavor, encode_to_slice(text, buf))
 }
 
-/// Counts a text.
+/// Computes the length of a string's encoding, for later calls.
 pub fn counted(flavor: Flavor, text: &str) -> CountedText<'_> {
     call!(flavor, counted(text))
 }
 
-/// The length of an encoding.
+/// The length of a string's encoding.
 pub fn encoded_len(flavor: Flavor, text: &str) -> usize {
     call!(flavor, encoded_len(text))
 }
 
-/// The strict reading.
+/// Decodes the encoding.
 pub fn decode_strict(alloc: Global, flavor: Flavor, bytes: &[u8]) -> Decoded<'_> {
     call!(flavor, decode_strict(alloc, bytes))
 }
 
-/// The strict reading of the front.
+/// Decodes the encoding in the first `len` bytes.
 pub fn decode_strict_front(alloc: Global, flavor: Flavor, bytes: &[u8], len: usize) -> Decoded<'_> {
     call!(flavor, decode_strict_front(alloc, bytes, len))
 }
 
-/// The lenient reading.
+/// Decodes UTF-8, or else the encoding.
 pub fn decode(alloc: Global, flavor: Flavor, bytes: &[u8]) -> Decoded<'_> {
     call!(flavor, decode(alloc, bytes))
 }
 
-/// The strict reading, with U+FFFD for damage.
+/// Decodes the encoding, and replaces damage by U+FFFD.
 pub fn decode_lossy_strict(alloc: Global, flavor: Flavor, bytes: &[u8]) -> LossilyDecoded<'_> {
     call!(flavor, decode_lossy_strict(alloc, bytes))
 }
 
-/// The lenient reading, with U+FFFD for damage.
+/// Decodes UTF-8, or else the encoding, and replaces damage by U+FFFD.
 pub fn decode_lossy(alloc: Global, flavor: Flavor, bytes: &[u8]) -> LossilyDecoded<'_> {
     call!(flavor, decode_lossy(alloc, bytes))
 }
 
-/// The length of a strict reading.
+/// The length of the text that the strict call returns.
 pub fn decoded_len(flavor: Flavor, bytes: &[u8]) -> Option<usize> {
     call!(flavor, decoded_len(bytes))
 }
 
-/// The length of a lossy reading.
+/// The length of the text that the lossy strict call returns.
 pub fn lossy_len(flavor: Flavor, bytes: &[u8]) -> Option<usize> {
     call!(flavor, lossy_len(bytes))
 }
 
-/// How many bytes at the front are whole encoded characters.
+/// The length of the longest valid prefix.
 pub fn valid_up_to(flavor: Flavor, bytes: &[u8]) -> usize {
     call!(flavor, valid_up_to(bytes))
 }
 
-/// The strict reading, into a buffer of the caller's.
+/// Decodes the encoding to the caller's buffer.
 pub fn decode_strict_to_slice(
     flavor: Flavor,
     bytes: &[u8],
@@ -120,7 +120,7 @@ pub fn decode_strict_to_slice(
     call!(flavor, decode_strict_to_slice(bytes, buf))
 }
 
-/// The lenient reading, into a buffer of the caller's.
+/// Decodes UTF-8, or else the encoding, to the caller's buffer.
 pub fn decode_to_slice(
     flavor: Flavor,
     bytes: &[u8],
@@ -129,7 +129,7 @@ pub fn decode_to_slice(
     call!(flavor, decode_to_slice(bytes, buf))
 }
 
-/// The strict reading with U+FFFD for damage, into a buffer of the caller's.
+/// Decodes the encoding to the caller's buffer, and replaces damage by U+FFFD.
 pub fn decode_lossy_strict_to_slice(
     flavor: Flavor,
     bytes: &[u8],
@@ -138,7 +138,7 @@ pub fn decode_lossy_strict_to_slice(
     call!(flavor, decode_lossy_strict_to_slice(bytes, buf))
 }
 
-/// The lenient reading with U+FFFD for damage, into a buffer of the caller's.
+/// Decodes UTF-8, or else the encoding, to the caller's buffer, and replaces damage by U+FFFD.
 pub fn decode_lossy_to_slice(
     flavor: Flavor,
     bytes: &[u8],

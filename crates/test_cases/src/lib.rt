@@ -1,5 +1,5 @@
-//! What the crates of tests share: the calls by the name of the encoding, inputs, the bytes and texts
-//! that the standards' tables give for them, and comparisons that return what differs.
+//! What the test crates share: the calls for either encoding, inputs, the bytes and texts that the
+//! standards' tables give for them, and comparisons that return what differs.
 //!
 //! A library may not assert. So a comparison returns the first difference, and a test asserts that
 //! there is none.

@@ -1,5 +1,5 @@
-//! A text with characters of each width: U+0061, U+0205, U+20AC, U+10400, U+0000, U+07FF, U+FFFF and
-//! U+1F496. tests/memory.sh reads the bytes here.
+//! A string with characters of each width: U+0061, U+0205, U+20AC, U+10400, U+0000, U+07FF, U+FFFF
+//! and U+1F496. tests/memory.sh reads the bytes here.
 
 use crate::flavors::Flavor;
 

@@ -1,5 +1,5 @@
-//! A plain codec, one character after another, by the standards' tables of byte patterns and of code
-//! units. It shares no code with the library.
+//! A plain codec, which takes one character after another and follows the standards' tables of byte
+//! patterns and of code units. It shares no code with the library.
 
 ghost use Rattle.std.specs.Prelude.{◌≤◌};
 
@@ -37,7 +37,7 @@ fn push_units(units: &mut Vec<u16>, character: char) -> Result<(), AllocError> {
     Ok(())
 }
 
-/// The UTF-16 code units of a text.
+/// The UTF-16 code units of a string.
 pub fn units(alloc: Global, text: &str) -> Result<Vec<u16>, AllocError> {
     let mut units = Vec::new(alloc);
     for character in text.chars() {
@@ -46,7 +46,7 @@ pub fn units(alloc: Global, text: &str) -> Result<Vec<u16>, AllocError> {
     Ok(units)
 }
 
-/// The encoding of a text.
+/// The encoding of a string.
 pub fn encoded(alloc: Global, flavor: Flavor, text: &str) -> Result<Vec<u8>, AllocError> {
     let mut bytes = Vec::new(alloc);
     let units = units(alloc, text)?;
@@ -56,7 +56,7 @@ pub fn encoded(alloc: Global, flavor: Flavor, text: &str) -> Result<Vec<u8>, All
     Ok(bytes)
 }
 
-/// How many bytes the encoded character takes that begins the bytes, or 0 where none does.
+/// The length of the encoded character at the start of the bytes, or 0 if there is none.
 fn width(flavor: Flavor, bytes: &[u8]) -> usize
     ensures { result ≤ 6 }
 {
@@ -83,7 +83,8 @@ fn width(flavor: Flavor, bytes: &[u8]) -> usize
     }
 }
 
-/// The character that these bytes encode, by the bits that each has in it, or U+FFFD for damage.
+/// The character that these bytes encode, computed from its bits in each byte, or U+FFFD for
+/// damage.
 fn character(bytes: &[u8]) -> char {
     let scalar = match bytes {
         [a] => u32::from(*a),
@@ -101,8 +102,8 @@ fn character(bytes: &[u8]) -> char {
     char::from_u32(scalar).unwrap_or('\u{FFFD}')
 }
 
-/// A lossy reading: its text, how many bytes are in no character, and how many precede the first of
-/// these.
+/// A lossy reading: its text, the number of bytes that are not part of a character, and the number
+/// of bytes before the first of these.
 #[derive(Drop)]
 pub struct Reading {
     pub text: String,
@@ -138,7 +139,7 @@ pub fn read(alloc: Global, flavor: Flavor, bytes: &[u8]) -> Result<Reading, Allo
 }
 
 impl Reading {
-    /// The outcome that a call has to have for the bytes that were read.
+    /// The outcome that a call must have for the bytes of this reading.
     pub fn expected<'a>(&'a self, decoder: Decoder, bytes: &'a [u8]) -> Outcome<'a> {
         if decoder.is_lenient() {
             if let Ok(text) = str::from_utf8(bytes) {

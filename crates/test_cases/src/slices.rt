@@ -1,4 +1,4 @@
-//! The calls that write to a buffer of the caller's, and comparisons of what they leave there.
+//! The calls that write to the caller's buffer, and comparisons of what they leave there.
 
 use crate::comparisons::{Difference, expect};
 use crate::decoders::{DECODERS, Decoder, Outcome};
@@ -11,17 +11,17 @@ use simd_cesu8::{DecodeSliceFault, LossySliceFault, TooShort};
 use std::alloc::{AllocError, Global};
 use std::ops::Range;
 
-/// What a buffer holds before a call.
+/// The byte that fills a buffer before a call.
 const FILLER: u8 = 0xEE;
 
-/// A buffer of this length.
+/// Returns a buffer of this length.
 pub fn buffer(alloc: Global, len: usize) -> Result<Vec<u8>, AllocError> {
     let mut buf = Vec::with_capacity(alloc, len)?;
     buf.resize(len, FILLER)?;
     Ok(buf)
 }
 
-/// Whether these bytes are at the front of a buffer, and the rest of it is as before the call.
+/// Whether a buffer begins with these bytes, and its rest is unchanged since before the call.
 pub fn holds(buf: &[u8], front: &[u8]) -> bool {
     match buf.split_at_checked(front.len()) {
         Some((written, rest)) => written == front && rest.iter().all(|byte| *byte == FILLER),
@@ -61,7 +61,7 @@ impl From<LossySliceFault> for SliceFault {
     }
 }
 
-/// A call that writes to a buffer of the caller's.
+/// A call that writes to the caller's buffer.
 #[derive(Clone, Copy, Debug)]
 pub enum SliceCall<'a> {
     Encode(&'a str),
@@ -80,7 +80,7 @@ impl SliceCall<'_> {
         }
     }
 
-    /// Makes the call, with this buffer.
+    /// Makes the call with this buffer.
     pub fn write(self, flavor: Flavor, buf: &mut [u8]) -> Result<usize, SliceFault> {
         Ok(match self {
             SliceCall::Encode(text) => encode_to_slice(flavor, text, buf)?,
@@ -94,8 +94,8 @@ impl SliceCall<'_> {
     }
 }
 
-/// Compares what a call returns and leaves in a buffer of each of these lengths with the result that
-/// it has to write, if there is one.
+/// Makes a call with a buffer of each of these lengths. Compares what it returns and leaves in the
+/// buffer with the bytes `due` that it has to write, or with an error if there are none.
 pub fn expect_in_rooms(
     alloc: Global,
     flavor: Flavor,
@@ -118,16 +118,16 @@ pub fn expect_in_rooms(
     Ok(())
 }
 
-/// How long a result is at most for which a buffer of each shorter length is tried.
+/// The longest result for which a buffer of every shorter length is tried.
 const SHORT: usize = 40;
 
-/// The lengths of a buffer to try for a result of so many bytes.
+/// The lengths of a buffer to try for a result of `needed` bytes.
 fn rooms_about(needed: usize) -> Range<usize> {
     let first = if needed <= SHORT { 0 } else { needed - 1 };
     first..needed.saturating_add(2)
 }
 
-/// The bytes that a call has to write which has this outcome, if there are any.
+/// The bytes that a call with this outcome has to write, if there are any.
 fn due_of(expected: Outcome<'_>) -> Option<&[u8]> {
     match expected {
         Outcome::Borrowed(text) | Outcome::Owned(text) => Some(text.as_bytes()),
@@ -135,8 +135,8 @@ fn due_of(expected: Outcome<'_>) -> Option<&[u8]> {
     }
 }
 
-/// Compares each call that decodes to a buffer, in both encodings, with what the plain decoder
-/// reads. The buffers are about as long as the result, and as long as the input.
+/// Compares each call that decodes to a buffer, in both encodings, with the plain decoder. The
+/// buffers are about as long as the result, and as long as the input.
 pub fn expect_slices(alloc: Global, bytes: &[u8]) -> Result<(), Difference> {
     for flavor in FLAVORS {
         let reading = read(alloc, flavor, bytes)?;

@@ -13,14 +13,14 @@ use std::process::Abort;
 /// No limit on the bytes of one call.
 const WHOLE: usize = usize::MAX;
 
-/// The status and the line, and how many reads, writes and flushes were called.
+/// The exit status, the line on standard error, and the numbers of reads, writes and flushes.
 type Seen = (Shown, [usize; 3]);
 
-/// The words and the input of a row, the error and the number of bytes that tell its devices, and
-/// what was seen of the run.
+/// The arguments and the input of a row, the error and the number of bytes that its devices were
+/// made with, and what was seen of the run.
 type Difference = (Words, &'static [u8], Option<ErrorKind>, usize, Seen);
 
-/// Runs, and returns what is seen of it if that, or what the writer kept, is not what was wanted.
+/// Runs the program, and returns what was seen if it, or what the writer holds, is not as expected.
 fn difference(
     alloc: Global,
     words: &[&str],
@@ -44,7 +44,7 @@ fn shown(ended: Result<(), RunFault>) -> Shown {
     }
 }
 
-/// What is wanted where each call reads or writes at most so many bytes and no read or write fails.
+/// What is expected if each call reads or writes at most `most` bytes, and no read or write fails.
 /// After the output the flush ends the run.
 fn wanted(bytes: &[u8], end: End, most: usize, flushed: Shown) -> (Seen, &'static [u8]) {
     let reads = calls_to_end(bytes.len(), most);
@@ -55,28 +55,28 @@ fn wanted(bytes: &[u8], end: End, most: usize, flushed: Shown) -> (Seen, &'stati
     }
 }
 
-/// Whether the words are no command, so that nothing is read.
+/// Whether the arguments are no command, so that nothing is read.
 fn is_usage(end: End) -> bool {
     matches!(end, Err((2, _)))
 }
 
-/// How many calls so many bytes take.
+/// The number of calls that `len` bytes take.
 fn calls(len: usize, most: usize) -> usize {
     if most == 0 { 0 } else { len.div_ceil(most) }
 }
 
-/// How many calls so many bytes take, and one more, which reports the end or fails.
+/// The number of calls that `len` bytes take, and one more, which reports the end or fails.
 fn calls_to_end(len: usize, most: usize) -> usize {
     calls(len, most).saturating_add(1)
 }
 
-/// The first bytes of a list.
+/// The first `len` bytes.
 fn front(bytes: &[u8], len: usize) -> &[u8] {
     bytes.get(..len).unwrap_or(&[])
 }
 
-/// What differs at a row, in calls of so many bytes, with a flush that fails with the error if there
-/// is one.
+/// The first row with another result, in calls of at most `most` bytes. If there is an error, the
+/// flush fails with it.
 fn difference_at_rows(alloc: Global, most: usize, error: Option<ErrorKind>) -> Option<Difference> {
     let flushed = if error.is_some() { FAILED } else { DONE };
     for (words, bytes, end) in &ROWS {
@@ -109,7 +109,7 @@ fn stops_at_a_failed_flush(rt: HostRuntime) {
     }
 }
 
-/// Each byte of a part of a surrogate pair is replaced by U+FFFD, or the part is refused.
+/// Each byte of a part of a surrogate pair is replaced by U+FFFD, or the part is rejected.
 fn difference_at_part(alloc: Global, part: &[u8]) -> Option<Seen> {
     let marks = front(MARKS, part.len().saturating_mul(3));
     for (words, is_lossy) in &STRICT {
@@ -127,7 +127,7 @@ fn difference_at_part(alloc: Global, part: &[u8]) -> Option<Seen> {
     None
 }
 
-/// Each front and each back of a surrogate pair.
+/// A surrogate pair is cut in two at each offset.
 #[test]
 fn decodes_no_part_of_a_pair(rt: HostRuntime) {
     for at in 1..PAIR.len() {
@@ -137,7 +137,8 @@ fn decodes_no_part_of_a_pair(rt: HostRuntime) {
     }
 }
 
-/// The MUTF-8 of these nulls, which are two whole blocks, has one byte more than a Java string can.
+/// The input is 32,768 nulls, which are two reads. Their MUTF-8 is one byte longer than a Java
+/// string can be.
 #[test]
 fn says_how_long_a_text_is(rt: HostRuntime) {
     let nulls = [0; 32768];
@@ -165,8 +166,8 @@ fn shows_faults_of_no_row(rt: HostRuntime) {
     assert_eq!(rt; shown, (OUT_OF_MEMORY, TOO_LONG));
 }
 
-/// At once, after each byte and after the last: the read that fails is the last, and no writer is
-/// called.
+/// The read fails at the start, after each byte or at the end. It is then the last, and nothing is
+/// written.
 fn difference_at_reads(alloc: Global, error: Option<ErrorKind>) -> Option<Difference> {
     for (words, bytes, end) in &ROWS {
         if is_usage(*end) {
@@ -193,7 +194,7 @@ fn stops_at_a_failed_read(rt: HostRuntime) {
     }
 }
 
-/// At each position of the output: the write that fails, or accepts nothing, is the last, and there
+/// The write at each offset of the output fails or accepts nothing. It is then the last, and there
 /// is no flush.
 fn difference_at_writes(alloc: Global, error: Option<ErrorKind>) -> Option<Difference> {
     for (words, bytes, end) in &ROWS {

@@ -1,5 +1,5 @@
--- These goals are also found with no answer. Where an edit of must-fail makes one false, a search for
--- its proof meets a limit, and tells nothing.
+-- The prover finds these goals by itself. But if an edit of must-fail makes one of them false, that
+-- search meets a limit instead of showing that it is false.
 use Rattle.std.proofs.Common.{◌≡◌, ◌∙◌, [], Err, inr, sym, subst, rules}
 use Rattle.std.proofs.lemmas.Bool.{eqb-true}
 use Rattle.std.proofs.lemmas.List.{nil_from_length}

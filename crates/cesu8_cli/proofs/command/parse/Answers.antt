@@ -1,5 +1,5 @@
--- This goal is also found with no answer. Where an edit of must-fail makes it false, a search for its
--- proof meets a limit, and tells nothing.
+-- The prover finds this goal by itself. But if an edit of must-fail makes the goal false, that
+-- search meets a limit instead of showing that it is false.
 use Rattle.std.proofs.Common.{◌≡◌, [], ◌∷◌, map, arith}
 use Rattle.std.specs.Prelude.{codes}
 use Rattle.std.proofs.lemmas.Grind.{common_steps}

@@ -3,7 +3,7 @@ use Rattle.std.specs.Prelude.{Option}
 use Rattle.std.specs.Io.KnownBytes.{Consumes}
 use Rattle.cesu8_cli.proofs.run.read_whole.Goals as goal
 
--- What is read in two steps is read.
+-- Bytes that are read in two steps are read, one part after the other.
 consumes_both : (first next last : Option (List ℕ)) (bytes more : List ℕ) → Consumes first next bytes →
     Consumes next last more → Consumes first last (bytes ++ more)
 consumes_both None next last bytes more is are = tt

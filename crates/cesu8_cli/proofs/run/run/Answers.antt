@@ -1,5 +1,5 @@
--- These goals are also found with no answer. Where an edit of must-fail makes one false, this search
--- gives up sooner than those that are tried there.
+-- The prover finds these goals by itself. The search given here fails sooner if an edit of
+-- must-fail makes one of them false.
 use Rattle.std.proofs.Common.{rules}
 use Rattle.cesu8_cli.proofs.run.run.Goals as goal
 

@@ -1,24 +1,24 @@
-//! A reader and a writer that are slow or fail. They take no memory.
+//! A reader and a writer that are slow or fail. They allocate nothing.
 
 ghost use Rattle.std.specs.Prelude.{◌≡◌, IfOk};
 
 use std::io::{Error, ErrorKind, Read, Result, Write};
 
-/// How many bytes a `Writer` can keep.
+/// The number of bytes that a `Writer` can hold.
 const SIZE: usize = 16;
 
-/// Returns its bytes, and then at each read its end, or an error.
+/// Returns its bytes, and after them reports the end of input, or an error, at each read.
 #[derive(Drop)]
 pub struct Reader<'a> {
     rest: &'a [u8],
     most: usize,
     pub error: Option<ErrorKind>,
-    /// How many reads were called.
+    /// The number of calls to `read`.
     pub reads: usize,
 }
 
 impl<'a> Reader<'a> {
-    /// Returns at most so many bytes a read, and then its end.
+    /// Makes a reader that returns at most `most` bytes a read, and then reports the end.
     pub fn new(bytes: &'a [u8], most: usize) -> Reader<'a> {
         Reader {
             rest: bytes,
@@ -42,23 +42,24 @@ impl<'a> Read for Reader<'a> {
     }
 }
 
-/// Keeps what it accepts. When it is full, and after a flush, it fails or accepts nothing.
+/// Holds the bytes that it accepts. When it is full, and after a flush, it fails or accepts
+/// nothing.
 #[derive(Drop)]
 pub struct Writer {
     bytes: [u8; SIZE],
     len: usize,
     most: usize,
-    /// The most bytes of all writes.
+    /// The number of bytes that it accepts in all.
     pub room: usize,
     pub error: Option<ErrorKind>,
     pub flush_error: Option<ErrorKind>,
-    /// How many writes and flushes were called.
+    /// The numbers of calls to `write` and to `flush`.
     pub writes: usize,
     pub flushes: usize,
 }
 
 impl Writer {
-    /// Accepts at most so many bytes a write, and has room for all.
+    /// Makes a writer that accepts at most `most` bytes a write, and `SIZE` in all.
     pub fn new(most: usize) -> Writer {
         Writer {
             bytes: [0; SIZE],
@@ -103,7 +104,7 @@ impl Write for Writer {
     }
 }
 
-/// Fails with this error, or takes nothing.
+/// Fails with this error, or accepts nothing if there is none.
 fn ends(error: Option<ErrorKind>) -> Result<usize>
     ensures { IfOk result (λ count. count ≡ 0) }
 {

@@ -1,4 +1,4 @@
-//! What each command writes for an input, or its fault.
+//! A table of commands and inputs, with the output or the error of each.
 
 /// The arguments.
 pub type Words = &'static [&'static str];
@@ -6,7 +6,7 @@ pub type Words = &'static [&'static str];
 /// The status and the line on standard error.
 pub type Shown = (u8, &'static str);
 
-/// What is written, or the fault, after which nothing is.
+/// What is written, or the error. Nothing is written after an error.
 pub type End = Result<&'static [u8], Shown>;
 
 pub const DONE: Shown = (0, "");
@@ -36,8 +36,8 @@ pub const HEART: &[u8] = b"\xF0\x9F\x92\x96";
 /// U+FFFD in UTF-8, five times.
 pub const MARKS: &[u8] = b"\xEF\xBF\xBD\xEF\xBF\xBD\xEF\xBF\xBD\xEF\xBF\xBD\xEF\xBF\xBD";
 
-/// The arguments, the input, and how the run ends. It is no constant, since that would be a part of
-/// each function that names it, and each proof would take far longer.
+/// The arguments, the input, and how the run ends. It is a static: a constant would be copied to
+/// each function that names it, and each proof would take much longer.
 pub static ROWS: [(Words, &[u8], End); 34] = [
     (&["encode", "cesu8"], b"", Ok(b"")),
     (
@@ -95,7 +95,7 @@ pub static ROWS: [(Words, &[u8], End); 34] = [
     (&["encode"], b"a", USAGE),
 ];
 
-/// The commands that decode the encoding alone, and whether they decode damage too.
+/// The commands that accept only the encoding, and whether they replace damage.
 pub static STRICT: [(Words, bool); 4] = [
     (&["lossy-strict", "cesu8"], true),
     (&["lossy-strict", "mutf8"], true),
