@@ -1,16 +1,17 @@
 #!/usr/bin/env bash
 # Uses the release for aarch64, with a compiler for it and in an emulator:
-# - it looks at which files it has, and at what the archive and the shared object show and ask for, and
-#   how they are aligned;
+# - the release has the right files, and the archive and the shared object define, require and align
+#   what they should;
 # - tests/exports.c calls each export of the archive and of the shared object;
-# - keys.c is built by pkg-config and by CMake, as C.md says; the other examples, cesu8_damage and a file
-#   of C++ are built and run;
+# - keys.c is built with pkg-config and with CMake, as C.md says; the other examples, cesu8_damage
+#   and a C++ file are built and run;
 # - tests/digest.c prints the same as on this processor.
-# tests/packages.sh and tests/wheel.sh do so with the packages and the wheel for aarch64.
+# tests/packages.sh and tests/wheel.sh test the packages and the wheel for aarch64.
 #
-# RELEASE names the folder that dist.sh has filled; where it is not set, dist.sh is run. Without a tool
-# that tests/cross.sh names, it says that it skipped everything; without pkg-config, CMake, java or a
-# compiler for C++, what it skipped. The status is 0 if nothing is wrong. It needs what tests/release.sh does.
+# RELEASE names the folder that dist.sh has filled; if it is not set, this script runs dist.sh. If a
+# tool that tests/cross.sh names is missing, it says that it skipped everything. If pkg-config,
+# CMake, java or a C++ compiler is missing, it says what it skipped. The status is 0 if nothing is
+# wrong. It needs what tests/release.sh needs.
 # shellcheck source=tests/lib.sh
 source "$(dirname "${BASH_SOURCE[0]}")/lib.sh" || exit 2
 crate=$top/crates/cesu8_static
@@ -25,8 +26,8 @@ source "$top/tests/shown.sh" || exit 2
 # shellcheck source=tests/run_examples.sh
 source "$top/tests/run_examples.sh" || exit 2
 
-# The release for aarch64 has the files of that for x86-64 but for the programs and their pages, and they are
-# the same but for the library and two that name what it is for.
+# The release for aarch64 has the files of the one for x86-64, without the programs and their pages.
+# They are the same, except the library and two files that name the processor.
 look_at_files() {
     local file others='^lib/libcesu8\.(a|so\..*)$|^README.md$|/cesu8-config-version.cmake$'
     diff <(cd "$native" && find . ! -type d -printf '%P %M\n' | sort |
@@ -42,7 +43,8 @@ look_at_files() {
         wrong 'these are about the programs'
 }
 
-# The names of the archive, and what it asks for, which is not what the processor has.
+# The names that the archive defines, and those that it requires. It requires nothing that depends
+# on the processor's features.
 look_at_archive() {
     local archive=$unpacked/lib/libcesu8.a asked
     diff <({ exports | sed 's/.*/&\n&_v8/'; plain_calls; } | sed 's/^/T cesu8_/' | sort) \
@@ -76,7 +78,7 @@ look_at_shared() {
         wrong "BUILT-FROM does not say that the shared object needs $needed"
 }
 
-# keys.c in a cross build by the lines that C.md has for it, of which the first three are a file for CMake.
+# Builds keys.c for aarch64 with the lines of C.md. The first three are a toolchain file for CMake.
 by_the_page() {
     local lines
     lines=$(sed -n '/^    set(CMAKE_SYSTEM_NAME/,/^$/s/^    //p' "$unpacked/C.md")
@@ -99,7 +101,7 @@ by_the_page() {
     fi
 }
 
-# That CMake finds no library for another processor: `refuses_the_other RELEASE FLAG..`.
+# Tests that CMake finds no library for another processor: `refuses_the_other RELEASE FLAG..`.
 refuses_the_other() {
     local folder=$scratch/other release=$1
     shift
@@ -110,7 +112,7 @@ refuses_the_other() {
         wrong "CMake takes the library in ${release##*/} for another processor"
 }
 
-# What tests/digest.c prints here and on aarch64.
+# Compares what tests/digest.c prints here and on aarch64.
 compare_answers() {
     local here there
     if ! quietly cc -std=c11 -O2 -Wall -Wextra -Werror -I "$native/include" -o "$scratch/digest" \

@@ -1,10 +1,10 @@
 #!/usr/bin/env bash
-# Unpacks Debian's Python for arm64, its headers and the libraries that they need in a folder, without
-# installing them:
+# Unpacks Debian's Python for arm64, its headers and the libraries that they need into a folder,
+# without installing them:
 #   aarch64_root.sh FOLDER
-# dist.sh builds the wheel for aarch64 with the headers, and tests/wheel.sh runs Python in an emulator.
-# The packages come from where this machine's apt has Debian's from, so this needs a network; no other
-# script does. It needs apt-get, dpkg and the core utilities.
+# dist.sh builds the wheel for aarch64 with the headers, and tests/wheel.sh runs Python in an
+# emulator. The packages come from the server that this machine's apt uses, so this needs a network;
+# no other script does. It needs apt-get, dpkg and the core utilities.
 set -euo pipefail
 unset CDPATH
 
@@ -17,7 +17,7 @@ folder=$(cd "$1" && pwd)
 scratch=$(mktemp -d)
 trap 'rm -rf "$scratch"' EXIT
 
-# apt has folders of its own here, in which nothing is installed, and knows arm64 alone.
+# Here apt uses folders of its own, in which nothing is installed, and knows only arm64.
 mkdir -p "$scratch"/{state/lists/partial,cache/archives/partial,sources}
 : >"$scratch/status"
 cp /etc/apt/sources.list.d/debian*.sources "$scratch/sources" 2>/dev/null || :

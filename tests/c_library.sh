@@ -1,5 +1,5 @@
-# The names of the library for C, and the calls of all. A script sources this file after tests/lib.sh,
-# and sets `crate` before, the folder of the library.
+# The names of the library for C, and a program that calls them all. A script sources this file
+# after tests/lib.sh, and first sets `crate`, the folder of the library.
 # shellcheck shell=bash disable=SC2154
 
 # The functions that the crate exports.
@@ -7,7 +7,7 @@ exports() {
     sed -n 's/^pub extern "C" fn cesu8_\([a-z0-9_]*\).*/\1/p' "$crate"/src/*.rt
 }
 
-# The calls of the archive that are plain C.
+# The functions of the archive that are written in C.
 plain_calls() {
     sed -n 's/^[a-z].*cesu8_\([a-z0-9_]*\)(.*)$/\1/p' "$crate/plain.c"
 }
@@ -20,13 +20,14 @@ mapped() {
     ' "$crate/package/cesu8.map"
 }
 
-# Whether functions begin at multiples of 32 bytes and tables at multiples of 16, by the sections that
-# readelf tells of. It prints those that do not.
+# Tests that functions begin at multiples of 32 bytes and tables at multiples of 16, from the
+# sections that readelf prints. It prints those that do not.
 are_aligned() {
     awk '/ \.text\./ && $NF != 32 || / \.rodata\.\./ && $NF != 16 { print; found = 1 } END { exit found }'
 }
 
-# Builds tests/exports.c with a library, and runs it: `call_exports FLAG..`, the library among them.
+# Builds tests/exports.c with a library, and runs it: `call_exports FLAG..`. One of the flags is the
+# library.
 call_exports() {
     if ! quietly "$c_compiler" -std=c11 -O1 -Wall -Wextra -Werror -I "$crate/include" \
         -o "$scratch/exports" "$top/tests/exports.c" "$@"; then

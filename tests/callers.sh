@@ -1,5 +1,6 @@
-# Callers of the library for C and of the program, for the scripts that use a release. A script sources
-# this file after tests/lib.sh, and sets `crate` before, the folder of the library, `version` and `major`.
+# Callers of the library for C and of the program, for the scripts that use a release. A script
+# sources this file after tests/lib.sh, and first sets `version`, `major` and `crate`, the folder of
+# the library.
 # shellcheck shell=bash disable=SC2154
 
 # Runs a built example, and compares what it prints: `example FILE WHAT`.
@@ -11,12 +12,12 @@ example() {
     fi
 }
 
-# Whether a program asks for the shared object: `wants_shared PROGRAM`.
+# Whether a program needs the shared object: `wants_shared PROGRAM`.
 wants_shared() {
     objdump -p "$1" | grep -q "NEEDED *libcesu8.so.$major\$"
 }
 
-# Builds keys.c by the compiler with these flags, and runs it: `by_flags WHAT FLAG..`.
+# Builds keys.c with these flags of the compiler, and runs it: `by_flags WHAT FLAG..`.
 by_flags() {
     local what=$1
     shift
@@ -29,12 +30,12 @@ by_flags() {
     fi
 }
 
-# keys.c by the flags of pkg-config, as C.md has them, with the shared object and without it:
-# `by_both WHAT FLAG..`, the flags with which the loader finds the shared object.
+# Builds keys.c with the flags of pkg-config, as in C.md, with the shared object and without it:
+# `by_both WHAT FLAG..`. With the flags the loader finds the shared object.
 by_both() {
     local what=$1 cflags libs folders
     shift
-    # It puts a backslash before some characters of a path.
+    # pkg-config puts a backslash before some characters of a path.
     eval "cflags=($(pkg-config --cflags cesu8))"
     eval "libs=($(pkg-config --libs cesu8))"
     eval "folders=($(pkg-config --libs-only-L cesu8))"
@@ -44,7 +45,7 @@ by_both() {
     ! wants_shared "$scratch/example" || wrong "$what: the static library is not linked"
 }
 
-# Whether CMake builds for C, or else WHAT is skipped: `can_build_by_cmake WHAT FLAG..`.
+# Whether CMake can build C. If not, WHAT is skipped: `can_build_by_cmake WHAT FLAG..`.
 can_build_by_cmake() {
     local folder=$scratch/probe_cmake what=$1
     shift
@@ -53,7 +54,7 @@ can_build_by_cmake() {
     can_build "$what" cmake -S "$folder" -B "$folder/build" "$@"
 }
 
-# keys.c by CMake: `by_cmake WHAT FLAG..`, with which CMake finds the library.
+# Builds keys.c with CMake: `by_cmake WHAT FLAG..`. With the flags CMake finds the library.
 by_cmake() {
     local folder=$scratch/cmake what=$1
     shift
@@ -79,7 +80,7 @@ CMAKE
     example "$folder/build/by_shared" "$what"
 }
 
-# A file of C++ with the static library: `in_cpp RELEASE`.
+# Builds a C++ file with the static library, and runs it: `in_cpp RELEASE`.
 in_cpp() {
     cat >"$scratch/encode.cpp" <<'CPP'
 #include "cesu8.h"

@@ -2,18 +2,17 @@
 # Compares the public contracts with docs/PROVED.md, with README.md and with tests/clauses.txt:
 #   tests/clauses.sh            compares, and prints what is wrong and then the counts
 #   tests/clauses.sh --write    writes tests/clauses.txt again from the sources
-# These have to hold:
-# - docs/PROVED.md names each public clause, and none that is not in the sources, and its words have the
-#   names, numbers and faults of the clauses beside them, as tests/words.awk tells;
-# - each clause and law that README.md names is in the sources, and each function that a page has `rt check`
-#   look at;
+# It checks that
+# - docs/PROVED.md names each public clause and no other, and its words contain the names, numbers
+#   and errors of the clauses beside them (tests/words.awk);
+# - each clause and law that README.md names is in the sources, and so is each function that a page
+#   passes to `rt check`;
 # - a public function has an `ensures` and no `requires`;
-# - what is there twice, for each encoding or kernel, is the same, and what is there once, for both
-#   encodings, names neither in its clauses;
-# - tests/clauses.txt has each public clause, signature and type, and the definitions that they
-#   cite, so that a change of these is a changed line there.
-# What a crate hands on from one below it is told as its own.
-# The status is 0 if nothing is wrong. It needs bash, awk, sed, grep and the core utilities.
+# - items that exist once for each encoding or kernel are the same, and items that exist once for
+#   both encodings name neither in their clauses;
+# - tests/clauses.txt has each public clause, signature and type, and the definitions that these
+#   cite, so that changing one changes a line there.
+# An item that a crate exports from a crate below it is listed as its own.
 set -u
 unset CDPATH
 export LC_ALL=C
@@ -23,10 +22,10 @@ cd "$top" || exit 2
 scratch=$(mktemp -d) || exit 2
 trap 'rm -rf "$scratch"' EXIT
 
-# Notes in a file, since what a pipe ends in counts for itself.
+# What is wrong is noted in a file, since a variable that is set in a pipe is lost.
 : >"$scratch/wrong"
 
-# Notes that something is wrong where there are lines: `none WHAT`.
+# Notes that something is wrong if standard input has lines: `none WHAT`.
 none() {
     local line
     while read -r line; do
@@ -34,14 +33,14 @@ none() {
     done
 }
 
-# The public items of a file, as contracts.awk tells them: `items CRATE PREFIX FILE`.
+# The public items of a file, as contracts.awk prints them: `items CRATE PREFIX FILE`.
 items() {
     echo "crates/$1/src/$3" >>"$scratch/files"
     awk -v crate="$1" -v prefix="$2" -f tests/contracts.awk "crates/$1/src/$3"
 }
 
-# Those of a file, of the public modules below it, of the private ones whose types it hands on, and
-# of the modules that it hands on from a crate below: `public_items CRATE PREFIX FILE`.
+# The public items of a file, of the public modules below it, of the private modules whose types it
+# exports, and of the modules that it exports from a crate below: `public_items CRATE PREFIX FILE`.
 public_items() {
     local crate=$1 prefix=$2 file=$3 told below path names
     told=$(items "$crate" "$prefix" "$file")
@@ -53,8 +52,8 @@ public_items() {
         <<<"$told")
 }
 
-# Those of the modules that a file names, in what is told of it:
-# `items_below CRATE PREFIX FILE TOLD`.
+# The public items of the modules that a file names. ITEMS are those of the file:
+# `items_below CRATE PREFIX FILE ITEMS`.
 items_below() {
     local crate=$1 prefix=$2 folder=${3%.rt}/ told=$4 module
     for module in $(sed -n 's/.*\tpub mod \([a-z0-9_]*\);$/\1/p' <<<"$told"); do
@@ -65,8 +64,8 @@ items_below() {
     done
 }
 
-# Those of modules of another crate, as if the crate itself had them, so that the crate's name alone
-# is another: `handed_on CRATE PREFIX BELOW PATH NAMES`, the names with commas between.
+# The public items of modules of another crate, listed as the crate's own:
+# `handed_on CRATE PREFIX BELOW PATH NAMES`, with commas between the names.
 handed_on() {
     local crate=$1 prefix=$2 below=$3 file=$4.rt names="^(${5//, /|})(::|$)" told
     told=$(items "$below" "$prefix" "$file" | awk -F '\t' -v prefix="$prefix" -v names="$names" '
@@ -78,7 +77,8 @@ handed_on() {
     } | sed "s/^$below\t/$crate\t/"
 }
 
-# What users can name: of the program, which hands nothing on, all but `main` and the tests.
+# All that users can name. The program exports nothing, so there it is everything but `main` and the
+# tests.
 everything() {
     local file
     public_items simd_cesu8 '' lib.rt
@@ -90,7 +90,8 @@ everything() {
     public_items cesu8_static '' lib.rt
 }
 
-# The items of functions whose names begin so, with the rest of the name: `those CRATE BEGIN`.
+# The items of functions whose names begin with BEGIN, with the rest of the name:
+# `those CRATE BEGIN`.
 those() {
     awk -F '\t' -v OFS='\t' -v crate="$1" -v begin="$2" '
         $1 == crate && $3 != "!item" && index($2, begin) == 1 {
@@ -101,23 +102,23 @@ those() {
     ' "$scratch/everything" | sort
 }
 
-# What is said of MUTF-8, as if it were said of CESU-8.
+# Rewrites items for MUTF-8 as items for CESU-8.
 of_cesu8() {
     sed 's/Cesu8/(Cesu8 of mutf8)/g; s/Mutf8/Cesu8/g; s/cesu8_mutf8_/cesu8_/g'
 }
 
-# What has to be said of MUTF-8 too: all that names an encoding, and what mutf8 has of the rest, as the file
-# tells: `of_encodings FILE`.
+# Keeps the items that must exist for MUTF-8 too: those that name an encoding, and those that FILE
+# has for MUTF-8: `of_encodings FILE`.
 of_encodings() {
     awk -F '\t' 'FNR == NR { is_in_mutf8[$2]; next } $2 in is_in_mutf8 || /Cesu8/' "$1" -
 }
 
-# What stands twice has to say the same: `same WHAT FILE FILE`, the files of what is told.
+# Notes the lines in which two files differ: `same WHAT FILE FILE`.
 same() {
     diff "$2" "$3" | grep '^[<>]' | none "$1 differ"
 }
 
-# The sources' items, with one of each that stands twice.
+# The items of the sources. Of items that exist more than once, it keeps one.
 sources() {
     local kernel
     everything >"$scratch/everything"
@@ -147,7 +148,7 @@ sources() {
     awk -F '\t' '$3 !~ /^!/ { print $1, $2, $3 }' "$scratch/items" | sort -u >"$scratch/sources"
 }
 
-# What no public function may have, or be without.
+# Notes public functions that have a requirement, or no contract.
 rules() {
     told '!requires' | none 'a public function asks something of its caller'
     told '!none' | none 'public, and without a contract'
@@ -156,12 +157,12 @@ rules() {
         grep -v '/\(lib\|mutf8\|java\)\.rt$' | none 'an export in a module that is not public'
 }
 
-# The items with such a mark: `told MARK`.
+# The items with this mark: `told MARK`.
 told() {
     awk -F '\t' -v mark="$1" '$3 == mark { print $1, $2 ": " $4 }' "$scratch/everything"
 }
 
-# What tests/clauses.txt has to hold.
+# The contents that tests/clauses.txt should have.
 texts() {
     local files
     echo '# What the public contracts say, a line each, and then the definitions that they cite.'
@@ -175,8 +176,9 @@ texts() {
         sed 's,^crates/\([a-z0-9_]*\)/\([^\t]*\)\t,\1 \2: ,'
 }
 
-# What the last cells of the page's tables name: entries that a semicolon parts, each a name and,
-# after a colon, its clauses. Names with the same clauses stand before one colon.
+# The names in the last cells of the page's tables. A cell has entries with a semicolon between
+# them, and an entry a name and, after a colon, its clauses. Names with the same clauses share a
+# colon.
 page() {
     awk '
         /^## / { crate = $2; gsub(/`/, "", crate) }
@@ -202,7 +204,8 @@ page() {
     awk -f tests/words.awk "$scratch/clauses.txt" docs/PROVED.md | none 'in docs/PROVED.md'
 }
 
-# The README names functions with clauses of theirs, in code with a colon between, and laws.
+# The clauses and laws that the README names. It names a clause as code after its function's name
+# and a colon.
 readme() {
     grep -o '`[a-z_:]*`: `[a-z_]*`\(, `[a-z_]*`\)*' README.md | tr -d '` ' |
         awk '{
@@ -218,7 +221,8 @@ readme() {
         none 'named in README.md, and no law'
 }
 
-# The functions that pages hand to `rt check`, as CRATE::MODULE::FUNCTION, are in the file of the module.
+# Tests that the functions that pages pass to `rt check`, as CRATE::MODULE::FUNCTION, are in the
+# module's file.
 checked() {
     local name path
     grep -ohE 'rt check --(only|start) [a-z0-9_]+(::[a-z0-9_]+)+' README.md docs/*.md bench/README.md |

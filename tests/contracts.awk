@@ -1,14 +1,14 @@
-# The public items of a Rattle file, a line each: the crate, the name, the clause and the whole text
-# on one line, with tabs between them:
+# Prints the public items of a Rattle file, one a line: the crate, the name, the clause and the
+# whole text on one line, with tabs between them:
 #   awk -v crate=CRATE -v prefix=PREFIX -f contracts.awk FILE
-# A public function has a line whose clause is `!fn`, and one for each clause of its contract: its
-# name, or a dash where it has none. `!requires` is the clause of a requirement, and `!none` that of
-# a function without a contract. A trait that is implemented has its ghost members for clauses, and
-# `!none` where it has methods and no such member. Any other public item has the clause `!item`, and
-# what can't be read `!unread`.
+# A public function has a line with the clause `!fn`, and one for each clause of its contract: the
+# clause's name, or a dash if it has none. A requirement has the clause `!requires`, and a function
+# without a contract also has `!none`. An implementation of a trait has its ghost members as
+# clauses, and `!none` if it has methods but no such member. Any other public item has the clause
+# `!item`, and text that this program can't read has `!unread`.
 
-# The code of a line, without comments. In what is quoted, braces, semicolons and spaces are marked,
-# so that they are not taken for code.
+# The code of a line, without comments. In quoted text, braces, semicolons and spaces are marked, so
+# that they are not taken for code.
 {
     line = $0
     code = ""
@@ -51,7 +51,7 @@ END {
     for (i = 1; i <= lines; i++) if (!(type_of[i] in is_private)) print line_of[i]
 }
 
-# Moves so many characters from the line to the code, marked.
+# Moves `count` characters from the line to the code, and marks them.
 function quote(count) {
     code = code marked(substr(line, 1, count))
     line = substr(line, count + 1)
@@ -75,7 +75,7 @@ function shown(part) {
     return part
 }
 
-# Marks the semicolons in brackets, which stand before the length of an array.
+# Marks the semicolons in brackets, which come before the length of an array.
 function mark_lengths(    rest, level, sign) {
     rest = text
     text = ""
@@ -88,7 +88,7 @@ function mark_lengths(    rest, level, sign) {
     text = text rest
 }
 
-# Keeps a line, which is printed at the end unless it is of a type that is not public.
+# Keeps a line. It is printed at the end, unless its type is not public.
 function tell(name, clause, told) {
     lines++
     line_of[lines] = crate "\t" name "\t" clause "\t" shown(told)
@@ -100,19 +100,19 @@ function unread() {
     text = ""
 }
 
-# Takes so many characters off the text.
+# Removes `count` characters from the start of the text, and returns them.
 function take(count,    taken) {
     taken = substr(text, 1, count)
     text = substr(text, count + 1)
     return taken
 }
 
-# Where the first of these stands, or 0.
+# The position of the first match, or 0.
 function first_of(pattern) {
     return match(text, pattern) ? RSTART : 0
 }
 
-# Where the text's first braces or brackets end, with all that stands in them.
+# The position where the text's first pair of braces or brackets closes.
 function end_of(opening, closing,    rest, level, place) {
     rest = text
     while (match(rest, "[" closing opening "]")) {
@@ -124,7 +124,7 @@ function end_of(opening, closing,    rest, level, place) {
     return length(text)
 }
 
-# Takes the next item off the text. What stands within an `impl` or a `mod` comes next.
+# Removes the next item from the text. The items inside an `impl` or a `mod` come next.
 function item(    taken) {
     if (text ~ /^}/) {
         close_context()
@@ -149,7 +149,7 @@ function item(    taken) {
         unread()
 }
 
-# What has no contract of its own: a type, a constant, a module, an import.
+# An item without a contract: a type, a constant, a module, an import.
 function other_item(    is_public, at, brace, taken) {
     is_public = text ~ /^pub /
     at = first_of(";")
@@ -169,7 +169,7 @@ function other_item(    is_public, at, brace, taken) {
     is_test = 0
 }
 
-# The name that a public item gives, or `use`.
+# The name that a public item defines, or `use`.
 function name_in(taken) {
     sub(/^pub(\([a-z: ]*\))? /, "", taken)
     if (taken ~ /^use /) return "use"
@@ -226,7 +226,7 @@ function close_context() {
     depth--
 }
 
-# What an implementation states of its trait. `laws` and `class` are proofs.
+# A ghost member by which an implementation says what it promises. `laws` and `class` are proofs.
 function ghost_member(    name, taken) {
     name = text
     sub(/^ghost /, "", name)
@@ -261,7 +261,7 @@ function function_item(    at, head, is_public, name, clauses) {
     take(text ~ /^;/ ? 1 : end_of("{", "}"))
 }
 
-# Takes a clause off the text: 1 where it is a promise, and 0 where it is a requirement.
+# Removes a clause from the text. Returns 1 if it is a promise, and 0 if it is a requirement.
 function contract_clause(name, is_public,    word, clause, taken) {
     sub(/^ +/, "", text)
     clause = word = substr(text, 1, first_of("{") - 1)

@@ -1,9 +1,9 @@
-# Sums what callgrind has written: awk -v library=NAME -v driver=NAME -f costs.awk FILE
+# Adds up a profile of callgrind: awk -v library=NAME -v driver=NAME -f costs.awk FILE
 #
-# It prints a line for each part of the file, with two sums: what the library's object has, and what
-# requests for memory, copies and all other objects have, but for the driver's. An instruction
-# counts 1, and a branch that was guessed wrong 15 more. The events have to be Ir Bc Bcm Bi Bim,
-# with no name and no position shortened.
+# It prints a line for each part of the file, with two sums: the cost of the library's object, and
+# the cost of allocations, copies and all other objects except the driver. An instruction counts 1,
+# and a mispredicted branch 15 more. The events must be Ir Bc Bcm Bi Bim, and no name or position
+# may be shortened.
 /^part: / { part = $2 }
 /^events: / && $0 != "events: Ir Bc Bcm Bi Bim" {
     print "costs.awk: other events: " $0 >"/dev/stderr"
@@ -11,7 +11,7 @@
 }
 /^ob=/ { object = $0; sub(/.*[\/=]/, "", object) }
 /^fn=/ { is_request = /^fn=((rattle_(alloc|realloc|dealloc))|malloc|realloc|free|mem[a-z]*)$/ }
-# The line behind a call has what the called function took, which has its own lines.
+# The line after a call has the cost of the called function, which is counted at its own lines.
 /^calls=/ { getline; next }
 /^[0-9]/ && (object != driver || is_request) {
     is_own = object == library && !is_request

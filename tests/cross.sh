@@ -1,10 +1,10 @@
-# The tools with which the library is built for aarch64, and what is built is run, for the scripts that
-# do. A script sources this file.
+# The tools that build the library for aarch64 and run what is built. A script that needs them
+# sources this file.
 #
-# These variables name them, and have Debian's names where they are not set: AARCH64_CC the compiler for
-# C, AARCH64_CXX that for C++, AARCH64_OBJCOPY objcopy, AARCH64_EMULATOR what runs a program. The other
-# tools of binutils are those that the compiler calls. AARCH64_ROOT is a folder with a Python for arm64
-# and its headers, as tests/aarch64_root.sh makes it.
+# These variables name the tools, and are Debian's names if they are not set: AARCH64_CC is the C
+# compiler, AARCH64_CXX the C++ compiler, AARCH64_OBJCOPY objcopy, and AARCH64_EMULATOR the emulator
+# that runs a program. The other tools of binutils are those that the compiler uses. AARCH64_ROOT is
+# a folder with a Python for arm64 and its headers, as tests/aarch64_root.sh makes it.
 # shellcheck shell=sh
 AARCH64_CC=${AARCH64_CC:-aarch64-linux-gnu-gcc}
 AARCH64_CXX=${AARCH64_CXX:-aarch64-linux-gnu-g++}

@@ -1,6 +1,6 @@
-# The modules of a crate that import one another, by way of others or not, a line each:
+# Prints the modules of a crate that import one another, directly or through others, one a line:
 #   awk -f cycles.awk crates/CRATE/src/FILE.rt...
-# It reads the `use` statements, but not those of tests. The root is `crate`.
+# It reads the `use` statements, except those of tests. The root is `crate`.
 
 FNR == 1 {
     here = FILENAME
@@ -39,7 +39,7 @@ END {
     for (i = 1; i <= modules; i++) if ((module[i], module[i]) in reaches) print module[i]
 }
 
-# Notes what a module imports: the paths of a statement, whose braces may have others in them.
+# Notes what a module imports: the paths of a statement, whose braces may be nested.
 function expand(from, front, path,    open, inside, level, i, sign, item) {
     open = index(path, "{")
     if (open == 0) {
@@ -60,7 +60,7 @@ function expand(from, front, path,    open, inside, level, i, sign, item) {
     }
 }
 
-# The module that a path is in, or is: the longest that is one.
+# Notes the module that a path names or is in: the longest prefix of the path that is a module.
 function imports(from, path,    part, count, i, at, found) {
     count = split(path, part, "::")
     i = 1

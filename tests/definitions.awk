@@ -1,15 +1,15 @@
-# The definitions that clauses cite, and those that these cite: a line for each head, equation, field and
-# constructor, with the file, and two spaces before all but the head:
+# Prints the definitions that clauses cite, and the definitions that these cite: a line for each
+# head, equation, field and constructor, with the file, and two spaces before all but the head:
 #   awk -f definitions.awk TEXTS FILE.rt... FILE.antt...
-# TEXTS has the clauses; the names in them are those that the .rt files import. Each .antt file is a
-# module of definitions, and specs/Lib.antt of a crate says which modules of others it hands on.
+# TEXTS has the clauses; the .rt files import the names in them. Each .antt file is a module of
+# definitions, and specs/Lib.antt of a crate says which modules of others it exports.
 
 FILENAME == ARGV[1] {
     cite($0)
     next
 }
 
-# A module of another crate that a crate hands on under its own name.
+# A module of another crate that a crate exports under its own name.
 /^pub use [^{]*$/ && FILENAME ~ /\/Lib\.antt$/ {
     name = $3
     sub(/.*\./, "", name)
@@ -49,7 +49,7 @@ FILENAME ~ /\.rt$/ { next }
     if (/^  [A-Z]/) defines(substr($0, 3))
 }
 
-# The definition that was read last has this name, which the rest of a line follows.
+# Notes the name of the definition that was read last. `name` is the name and the rest of its line.
 function defines(name) {
     sub(/[ :].*/, "", name)
     definition[module_of(FILENAME), name] = count
@@ -98,7 +98,8 @@ function cite(line,    names, total, i) {
     for (i = 1; i <= total; i++) is_cited[names[i]]
 }
 
-# The module and the name of an item where it is defined, and not only handed on.
+# The module that defines an item, and the item's name there. Modules that only export it do not
+# count.
 function origin(key,    parts) {
     split(key, parts, SUBSEP)
     if (parts[1] in handed_on) return origin(handed_on[parts[1]] SUBSEP parts[2])
@@ -106,7 +107,7 @@ function origin(key,    parts) {
     return key
 }
 
-# The definition that a name means in a file, or 0.
+# The number of the definition that a name means in a file, or 0.
 function meant(path, name,    key, parts) {
     key = module_of(path) SUBSEP name
     if (!(key in definition)) {
@@ -140,8 +141,8 @@ END {
     tell_meanings()
 }
 
-# A name that means one thing here and another there is told with what it means in each file that
-# imports it, so that no import can make a clause mean something else unseen.
+# If a name has different meanings in different files, prints its meaning in each file that imports
+# it, so that no import can change what a clause means without changing a line.
 function tell_meanings(    key, parts, item) {
     for (key in item_of) {
         split(key, parts, SUBSEP)
@@ -165,7 +166,7 @@ function means(name, what) {
     meanings[name]++
 }
 
-# Whether a file that imports a name has what tests/clauses.txt tells.
+# Whether a file that imports a name has clauses or definitions in tests/clauses.txt.
 function is_told(path, name) {
     return path ~ /\.rt$/ ? name in is_cited : path in is_used
 }

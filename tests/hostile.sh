@@ -3,10 +3,10 @@
 # has the expected results. Output is compared byte for byte.
 #
 # Each run has a memory limit: the vector that has grown to hold the input (the next power of two),
-# the one request for the output, and a fifth more. tests/requests.sh tests runs that lack memory.
+# the one allocation of the output, and a fifth more. tests/requests.sh tests runs that lack memory.
 #
-# The readings of noise, bytes that nobody chose, come from the plain codec of bench, which needs a
-# rustc. Where there is none, it says that these were skipped.
+# The expected output for noise, which is random bytes, comes from the plain codec of bench. It
+# needs a rustc. If there is none, the script says that it skipped these comparisons.
 #
 # | command | the request for the output |
 # |---|---|
@@ -23,12 +23,12 @@ source "$(dirname "${BASH_SOURCE[0]}")/lib.sh" || exit 2
 # shellcheck source=tests/hostile_bytes.sh
 source "$top/tests/hostile_bytes.sh" || exit 2
 
-# The length of each input, and what a vector has grown to that holds it.
+# The length of each input, and the capacity of a vector that has grown to hold it.
 length=64000000
 capacity=67108864
 
-# What each command has to answer to an input. `same` is the input itself, and the other names of
-# answers are those of the files that `write_answers` makes.
+# The expected result of each command for each input. `same` is the input itself, and the other
+# names of results are those of the files that `write_answers` makes.
 table='
 input flavor encode   needs    decode  decode-strict lossy    lossy-strict java-write java-read
 half  cesu8  not_utf8 not_utf8 invalid invalid       replaced replaced     -          -
@@ -51,7 +51,7 @@ write_answers() {
     repeated "$length" '\xEF\xBF\xBD' >"$scratch/replaced"
 }
 
-# The input, and the answers that it alone has: `write_input NAME`.
+# Writes an input, and the expected results that only it has: `write_input NAME`.
 write_input() {
     rm -f "$scratch"/{pairs,nulls,cesu8,mutf8}
     hostile_bytes "$1" "$length" >"$scratch/input"
@@ -62,7 +62,8 @@ write_input() {
     esac
 }
 
-# Of noise, the readings of one million, as often as it stands in the input.
+# Writes the expected results for noise: those for the million bytes that are repeated in the input,
+# repeated as often.
 write_readings() {
     local flavor
     [[ -n $codec ]] || return
@@ -73,7 +74,8 @@ write_readings() {
     done
 }
 
-# Runs with at most so many bytes of memory: `run_within BYTES COMMAND FLAVOR STATUS LINE ANSWER`.
+# Runs the program with at most BYTES of memory:
+# `run_within BYTES COMMAND FLAVOR STATUS LINE ANSWER`.
 run_within() {
     local statuses
     (ulimit -v $(($1 / 1024)) && exec "$program" "$2" "$3") <"$scratch/input" 2>"$scratch/error" |
@@ -87,8 +89,8 @@ run_within() {
     fi
 }
 
-# One field of the table: `run_field COMMAND FLAVOR OUTCOME`. Where there is no plain codec, no reading
-# of noise is compared.
+# Tests one field of the table: `run_field COMMAND FLAVOR OUTCOME`. Without a plain codec, the
+# results for noise are not compared.
 run_field() {
     local status=0 line='' answer=/dev/null request=0
     [[ -z $codec && ($3 == cesu8 || $3 == mutf8) ]] && return
@@ -108,7 +110,7 @@ run_field() {
     run_within $(((capacity + request) * 6 / 5)) "$1" "$2" "$status" "$line" "$answer"
 }
 
-# Runs what a row of the table asks for: `run_row INPUT FLAVOR OUTCOME..`.
+# Tests a row of the table: `run_row INPUT FLAVOR OUTCOME..`.
 run_row() {
     local commands=(encode needs decode decode-strict lossy lossy-strict java-write java-read)
     local command flavor=$2
@@ -132,7 +134,7 @@ run_table() {
     done < <(tail -n +3 <<<"$table")
 }
 
-# The plain codec of bench, which shares no code with the library, or none where no rustc is.
+# Builds the plain codec of bench, which shares no code with the library, if there is a rustc.
 build_codec() {
     codec=''
     can_build_rust 'the readings of noise' || return

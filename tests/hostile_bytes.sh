@@ -1,8 +1,8 @@
-# Bytes that are bad to read, for scripts that pass them to the program. A script sources this file
-# after tests/lib.sh.
+# Hostile input, for scripts that pass it to the program. A script sources this file after
+# tests/lib.sh.
 # shellcheck shell=bash disable=SC2154
 
-# A file's bytes so many times: `copies TIMES FILE`.
+# Prints a file several times: `copies TIMES FILE`.
 copies() {
     local time
     for ((time = 0; time < $1; time++)); do
@@ -10,8 +10,9 @@ copies() {
     done
 }
 
-# A million bytes, the same in each run: any ones at first, and then those of which characters are
-# cut and pairs are made. The last is a letter, so no character goes from one million into the next.
+# Prints a million bytes, the same in each run: first random bytes, and then random ones of those
+# that make cut characters and surrogate pairs. The last is a letter, so no character crosses from
+# one million to the next.
 noise() {
     printf '%b' "$(awk 'BEGIN {
         many = split("0 65 128 150 160 178 189 191 192 194 223 224 237 239 240 244", some)
@@ -25,9 +26,9 @@ noise() {
     }')"
 }
 
-# So many bytes of one kind: first halves of pairs, the last character, a lead byte of no character
-# in CESU-8, pairs that are cut after two bytes, nulls, or noise, which comes in whole millions and
-# leaves one in $scratch/million: `hostile_bytes KIND LENGTH`.
+# Prints LENGTH bytes of one kind: first halves of surrogate pairs, the last character, a lead byte
+# that begins no character in CESU-8, pairs that are cut off after two bytes, nulls, or noise. Noise
+# comes in whole millions, and one million is left in $scratch/million: `hostile_bytes KIND LENGTH`.
 hostile_bytes() {
     case $1 in
         half) filled "$2" '\xED\xA0\xBD' ;;

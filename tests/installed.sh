@@ -1,8 +1,9 @@
-# For tests/dist.sh: installs by install.sh, and builds callers where that is. It uses what that script
-# and tests/callers.sh set, and `has_pkg_config` and `has_cmake`, which are empty where there is none.
+# For tests/dist.sh: installs the release with install.sh, and builds callers there. It uses the
+# variables of that script and of tests/callers.sh. `has_pkg_config` and `has_cmake` are empty if
+# the tool is missing.
 # shellcheck shell=bash disable=SC2154
 
-# keys.c by pkg-config: `by_pkg_config LIBDIR WHAT`, the folder of the libraries.
+# Builds keys.c with pkg-config: `by_pkg_config LIBDIR WHAT`. LIBDIR is the folder of the libraries.
 by_pkg_config() {
     export PKG_CONFIG_PATH=$1/pkgconfig
     [[ $(pkg-config --modversion cesu8) == "$version" ]] || wrong "$2 has another version"
@@ -11,7 +12,8 @@ by_pkg_config() {
     unset PKG_CONFIG_PATH
 }
 
-# Which versions CMake takes, and that it takes no library of 64 bits for other processors.
+# Tests which versions CMake accepts, and that it accepts no library of 64 bits for other
+# processors.
 look_at_versions() {
     local folder=$scratch/versions first=$major.0 next=$((major + 1))
     mkdir "$folder" || exit 2
@@ -48,8 +50,8 @@ CMAKE
         wrong 'CMake takes other versions'
 }
 
-# Installs to a folder that is moved then, and builds there: `install_to LIBDIR GIVEN`, the folder of
-# the libraries and how install.sh is told it.
+# Installs to a folder, moves the folder, and builds there: `install_to LIBDIR GIVEN`. LIBDIR is the
+# folder of the libraries, and GIVEN the argument that names it for install.sh.
 install_to() {
     local prefix="$scratch/pre & fix|" moved=$scratch/moved_${1//\//_} flag
     quietly sh "$unpacked/install.sh" "$prefix" ${2:+"${2//PREFIX/"$prefix"}"} ||
@@ -64,7 +66,8 @@ install_to() {
         by_pkg_config "$moved/$1" "keys.c by pkg-config from $1"
     fi
     if [[ -n $has_cmake ]]; then
-        # CMake looks in lib64 on some systems alone, and in the last on Debian and its like.
+        # CMake searches lib64 only on some systems, and the multiarch folder only on Debian and its
+        # derivatives.
         flag=-DCMAKE_PREFIX_PATH=$moved
         case $1 in
             lib | "lib/$(cc -print-multiarch)") ;;
@@ -75,7 +78,7 @@ install_to() {
     uninstall "$moved"
 }
 
-# Takes away all that was installed in a folder, beside a file that was not: `uninstall FOLDER`.
+# Removes all that was installed in a folder, and leaves a file that was not: `uninstall FOLDER`.
 uninstall() {
     local files
     touch "$1/bin/other" || exit 2
@@ -86,8 +89,8 @@ uninstall() {
         wrong 'uninstall.sh leaves other files'
 }
 
-# Installs to a folder that is named from the one in which install.sh is called, which is another
-# than the release's.
+# Installs to a folder given by a relative path. install.sh is called in another folder than the
+# release's.
 install_beside() {
     local folder=$scratch/beside
     mkdir "$folder" && cp -a "$unpacked" "$folder/release" || exit 2
@@ -101,8 +104,8 @@ install_beside() {
     uninstall "$folder/to/prefix"
 }
 
-# What was installed twice, with the libraries in two folders, is taken away by one run. Of what the
-# first run prints, only a line is read.
+# After two installations, with the libraries in two folders, one run removes everything. Of the
+# first run's output, only a line is read.
 install_twice() {
     local prefix=$scratch/twice
     "$unpacked/install.sh" "$prefix" | head -n 1 >"$scratch/said"
@@ -111,7 +114,8 @@ install_twice() {
     uninstall "$prefix"
 }
 
-# What a run that fails on its way has installed is taken away. The folder of the man pages can't be made.
+# If install.sh fails half-way, uninstall.sh removes what it installed. Here the folder of the man
+# pages can't be made.
 install_half() {
     local prefix=$scratch/half
     mkdir -p "$prefix/share" && touch "$prefix/share/man" || exit 2
@@ -149,7 +153,8 @@ install_below() {
     fi
 }
 
-# That install.sh refuses these arguments with status 2, and writes nothing: `refuses ARGUMENT..`.
+# Tests that install.sh rejects these arguments with status 2, and writes nothing:
+# `refuses ARGUMENT..`.
 refuses() {
     local status=0
     (cd "$scratch/nowhere" && sh "$unpacked/install.sh" "$@") >"$scratch/printed" 2>"$scratch/said" ||
@@ -162,7 +167,7 @@ refuses() {
     diff -r "$unpacked" "$scratch/unpacked_before" || wrong "install.sh writes to the release for: $*"
 }
 
-# That a script of the release prints how it is called, and nothing else: `helps SCRIPT ARGUMENT..`.
+# Tests that a script of the release prints its usage, and nothing else: `helps SCRIPT ARGUMENT..`.
 helps() {
     (cd "$unpacked" && sh "$@") >"$scratch/printed" 2>"$scratch/said" ||
         wrong "this fails: $*"

@@ -1,13 +1,14 @@
 #!/usr/bin/env bash
-# Checks that no crate of this repository depends on the inside of another, and prints what is wrong
-# and then the counts. These have to hold:
-# - crates.txt lists each crate after those that it uses;
-# - the crates above the library name nothing of the crates that simd_cesu8 stands on;
+# Checks that no crate of this repository depends on the internals of another, and prints what is
+# wrong and then the counts. It checks that
+# - crates.txt lists each crate after the crates that it uses;
+# - the crates above the library name nothing of the crates that simd_cesu8 is built on;
 # - code, definitions and proofs name no module of another crate's `proofs`, except
 #   simd_cesu8.proofs.StdUtf8, which is public. Within the library they may name those of the crates
-#   below. The proofs of std are public;
-# - no contract, ghost item or definition takes a word from a proof, but for the proof of a trait's law;
-# - only the modules below import one another. That list is to become shorter.
+#   below, and the proofs of std are public;
+# - no contract, ghost item or definition uses a name from a proof, except the proof of a trait's
+#   law;
+# - only the modules in the list below import one another. The list should become shorter.
 # The status is 0 if nothing is wrong. It needs bash, awk, sed and the core utilities.
 set -u
 unset CDPATH
@@ -17,13 +18,14 @@ cd "$(dirname "${BASH_SOURCE[0]}")/.." || exit 2
 scratch=$(mktemp -d) || exit 2
 trap 'rm -rf "$scratch"' EXIT
 
-# The modules that import one another, of each crate.
+# The modules of each crate that may import one another.
 known_cycles() {
     cat <<'MODULES'
 MODULES
 }
 
-# The crates of crates.txt, each with those below it that are here, by way of others or not.
+# The crates of crates.txt, each with the crates of this repository that it uses, directly or
+# through others.
 sed 's/#.*//; s/ staticlib:/:/' crates.txt | awk -F ':' '
     NF == 2 {
         count = split($2, name, " ")
@@ -44,9 +46,9 @@ sed 's/#.*//; s/ staticlib:/:/' crates.txt | awk -F ':' '
 ' >"$scratch/crates" 2>"$scratch/wrong"
 read -r library < <(sed -n 's/^simd_cesu8 //p' "$scratch/crates")
 
-# The laws of the traits in these files, and those of std that something here proves, a line `TRAIT.LAW`
-# each: `laws FILE..`. A trait's ghost items below its last function are laws, and where it has no
-# function, those that name another of its items.
+# The laws of the traits in these files, and the laws of std that something here proves, one a line
+# as `TRAIT.LAW`: `laws FILE..`. A trait's ghost items after its last function are laws. If it has
+# no function, the ghost items that name another of its items are.
 laws() {
     echo PartialEq.laws
     awk '
@@ -77,7 +79,7 @@ laws() {
     ' "$@"
 }
 
-# What the files on standard input name of other crates and may not, a line each.
+# The names of other crates that the files on standard input use and must not, one a line.
 wrong() {
     local file crate
     while read -r file; do
@@ -102,7 +104,7 @@ wrong() {
             {
                 if (/^impl[ <].* for /) trait = trait_of($0)
                 is_word = file ~ /\/specs\// || file ~ /\/src\// && !/^ *#!?\[tactic/ && !is_law($0)
-                # What is imported for the proof of a law stands in laws alone.
+                # A name that is imported for the proof of a law occurs only in laws.
                 if (is_word && file !~ /\/specs\// && match($0, /\.proofs\..*\{.*\}/)) {
                     names = substr($0, RSTART, RLENGTH)
                     gsub(/.*\{|\}.*/, "", names)

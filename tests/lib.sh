@@ -1,6 +1,6 @@
-# What the scripts of tests/ share. A script sources this file first, which gives it
+# What the scripts of tests/ share. A script sources this file first. It sets
 # - `top`, the repository's folder, and `scratch`, a folder for its files, removed at the end;
-# - `program` and `build`, of tests/program.sh;
+# - `program`, and the function `build`, from tests/program.sh;
 # - `passed` and `failed`, which the functions below count.
 # It needs bash and the core utilities.
 # shellcheck shell=bash disable=SC2034
@@ -17,23 +17,24 @@ source "$top/tests/program.sh" || exit 2
 passed=0
 failed=0
 
-# The compilers, and what runs what they build. For another processor than this a script sets others.
+# The compilers, and the emulator that runs what they build. For another processor than this a
+# script sets others.
 c_compiler=cc
 cpp_compiler=c++
 emulator=()
 
-# Counts what is right.
+# Counts a success.
 pass() {
     passed=$((passed + 1))
 }
 
-# Counts what is wrong, and tells it: `wrong WHAT`.
+# Counts and prints what is wrong: `wrong WHAT`.
 wrong() {
     failed=$((failed + 1))
     printf 'wrong: %s\n' "$1"
 }
 
-# Counts what has to hold: `expect WHAT TEST..`.
+# Counts whether a test succeeds: `expect WHAT TEST..`.
 expect() {
     local what=$1
     shift
@@ -46,24 +47,25 @@ finish() {
     ((failed == 0))
 }
 
-# Runs the program on $scratch/input: `run WORD..`. It keeps its status in `status`, and what it
-# writes in $scratch/output and $scratch/error.
+# Runs the program on $scratch/input: `run WORD..`. It stores the exit status in `status`, and the
+# output in $scratch/output and $scratch/error.
 run() {
     "$program" "$@" <"$scratch/input" >"$scratch/output" 2>"$scratch/error"
     status=$?
 }
 
-# A file's length and first bytes, in words: `shown FILE`.
+# Prints a file's length and first bytes: `shown FILE`.
 shown() {
     echo "$(stat -c %s "$1") bytes:$(od -An -v -tx1 -N 60 -w60 "$1")"
 }
 
-# Counts whether a run has ended with this status, wrote what a file has, and told this line or none:
-# `expect_run WHAT STATUS LINE FILE`. What came of the run is where `run` keeps it.
+# Counts whether a run ended with this status, wrote what a file holds, and printed this line to
+# standard error, or nothing if it is empty: `expect_run WHAT STATUS LINE FILE`. It reads what `run`
+# stored.
 expect_run() {
     local told='' differs=''
     [[ $status == "$2" ]] || differs+=$'\n'"  status: $status, and not $2"
-    # Where the read succeeds, there is a null.
+    # The read succeeds only if there is a null.
     if IFS= read -r -d '' told <"$scratch/error" || [[ $told != "${3:+$3$'\n'}" ]]; then
         differs+=$'\n'"  standard error: $told, and not $3"
     fi
@@ -72,7 +74,8 @@ expect_run() {
     if [[ -z $differs ]]; then pass; else wrong "$1$differs"; fi
 }
 
-# Keeps in `bytes` these so many times, where no or fewer times is none: `repeat TIMES BYTES`.
+# Stores in `bytes` these bytes TIMES times, and nothing if TIMES is 0 or less:
+# `repeat TIMES BYTES`.
 repeat() {
     local times=$1 piece=$2
     bytes=''
@@ -83,12 +86,12 @@ repeat() {
     done
 }
 
-# Keeps in `length` how many bytes `printf %b` makes of these: `measure BYTES`.
+# Stores in `length` the number of bytes that `printf %b` makes of these: `measure BYTES`.
 measure() {
     printf '%b%n' "$1" length >/dev/null
 }
 
-# Prints these, as `printf %b` takes them, so many times: `repeated TIMES BYTES`.
+# Prints bytes, written as for `printf %b`, TIMES times: `repeated TIMES BYTES`.
 repeated() {
     local bytes times=$1 files=()
     if ((times >= 16384)); then
@@ -101,22 +104,22 @@ repeated() {
     printf '%b' "$bytes"
 }
 
-# Prints the first so many bytes of these again and again: `filled LENGTH BYTES`.
+# Prints LENGTH bytes, which are these repeated: `filled LENGTH BYTES`.
 filled() {
     local length
     measure "$2"
     repeated $(($1 / length + 1)) "$2" | head -c "$1"
 }
 
-# Runs a command, and prints what it said where it fails: `quietly COMMAND..`.
+# Runs a command, and prints its output if it fails: `quietly COMMAND..`.
 quietly() {
     "$@" </dev/null >"$scratch/said" 2>&1 && return
     cat "$scratch/said"
     return 1
 }
 
-# Whether a compiler builds the program that stands in a file: `can_build WHAT COMPILER ARGUMENT..`.
-# If it does not, WHAT is skipped.
+# Whether a compiler can build a program: `can_build WHAT COMPILER ARGUMENT..`. If it can't, WHAT is
+# skipped.
 can_build() {
     local what=$1
     shift
@@ -130,8 +133,8 @@ can_build() {
     fi
 }
 
-# Builds a program as `cc` does, and where an emulator has to run it, puts a script that does so in its
-# place: `compile ARGUMENT..`, with -o PROGRAM among them.
+# Builds a program as `cc` does: `compile ARGUMENT..`, with -o PROGRAM among the arguments. If it
+# needs an emulator, the program is replaced by a script that runs it in the emulator.
 compile() {
     local word before='' program=''
     for word in "$@"; do

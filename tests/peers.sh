@@ -1,29 +1,29 @@
 #!/usr/bin/env bash
-# Compares the program with other implementations, where they are installed:
+# Compares the program with other implementations, if they are installed:
 # - for Java strings and MUTF-8 with the JDK's `writeUTF` and `readUTF`;
 # - for CESU-8 with the JDK's charset CESU-8, and with ICU's `uconv`.
-# What the program writes of each text has to be what they write, byte for byte, and each has to
-# read what the other wrote. The program also has to read a constant from a class file of `javac`.
-# It prints each text that is wrong, which implementation was skipped, and the counts at the end.
-# The status is 0 if nothing is wrong.
+# For each text the program has to write the same bytes as they do, and each has to read what the
+# other wrote. The program also has to read a constant from a class file of `javac`. It prints each
+# text that is wrong, which implementation was skipped, and the counts at the end. The status is 0
+# if nothing is wrong.
 #
 # It needs the kit's `rt`, bash, awk and the core utilities, and for the JDK version 11 or later.
 # shellcheck source=tests/lib.sh
 source "$(dirname "${BASH_SOURCE[0]}")/lib.sh" || exit 2
 mkdir "$scratch"/{texts,ours,java,uconv} || exit 2
 
-# The words that write and read what is compared: the two encodings, and Java strings.
+# The commands that write and read what is compared: the two encodings, and Java strings.
 declare -A writes=([cesu8]='encode cesu8' [mutf8]='encode mutf8' [string]='java-write mutf8')
 declare -A reads=([cesu8]='decode-strict cesu8' [mutf8]='decode-strict mutf8' [string]='java-read mutf8')
 
-# The scalar values at the borders of the forms, which crates/test_cases has.
+# Reads the scalar values that crates/test_cases lists.
 read_borders() {
     mapfile -t borders < <(
         grep -o '"U+[0-9A-F]*"' "$top/crates/test_cases/src/borders.rt" | sed 's/"U+/0x/; s/"//'
     )
 }
 
-# Writes the text of the scalar values on standard input, one a line, as UTF-8: `write_text NAME`.
+# Writes the UTF-8 of the scalar values on standard input, one a line: `write_text NAME`.
 write_text() {
     local escapes
     escapes=$(awk '
@@ -40,7 +40,7 @@ write_text() {
     printf "$escapes" >"$scratch/texts/$1"
 }
 
-# All scalar values in turn, in texts whose MUTF-8 is short enough for writeUTF.
+# Writes all scalar values in turn, in texts whose MUTF-8 is short enough for writeUTF.
 write_blocks() {
     local first last
     for ((first = 0; first < 0x110000; first += 0x2000)); do
@@ -49,7 +49,8 @@ write_blocks() {
     done
 }
 
-# Writes all texts, and makes sure that they are not cut short, since too little would agree too.
+# Writes all texts, and checks their total length: if some were missing, the comparisons would
+# succeed all the same.
 write_texts() {
     local scalar bytes
     write_text empty </dev/null
@@ -58,22 +59,22 @@ write_texts() {
     done
     write_blocks
     bytes=$(cat "$scratch"/texts/* | wc -c)
-    # The borders have 62 bytes, and all scalar values 4,382,592.
+    # The listed scalar values have 62 bytes, and all scalar values 4,382,592.
     if ((bytes != 62 + 4382592)); then
         echo "the texts were not written: they have $bytes bytes" >&2
         exit 2
     fi
 }
 
-# Runs a command from a file to a file, which is left out where the command fails: `convert INPUT
-# OUTPUT COMMAND..`.
+# Runs a command from a file to a file, which is removed if the command fails:
+# `convert INPUT OUTPUT COMMAND..`.
 convert() {
     local input=$1 output=$2
     shift 2
     "$@" <"$input" >"$output" 2>>"$scratch/errors" || rm -f "$output"
 }
 
-# What the program writes of each text. Its words are separated by blanks.
+# Writes each text with the program. The words of a command are separated by blanks.
 # shellcheck disable=SC2086
 encode_texts() {
     local name form
@@ -84,7 +85,8 @@ encode_texts() {
     done
 }
 
-# Compares what a peer wrote and read with what the program does: `compare PEER FORM NAME`.
+# Compares what another implementation wrote and read with what the program does:
+# `compare PEER FORM NAME`.
 # shellcheck disable=SC2086
 compare() {
     local text=$scratch/texts/$3 ours=$scratch/ours/$3.$2 theirs=$scratch/$1/$3.$2 differs=''
@@ -105,7 +107,7 @@ compare_all() {
     summary+="$1, $2: ${#names[@]} texts compared, $((passed - before)) agree"$'\n'
 }
 
-# Reads the constant of tests/peers/Peer.java out of its class file. Here it is in UTF-8.
+# Reads the constant of tests/peers/Peer.java from its class file, and compares it with its UTF-8.
 compare_constant() {
     printf 'a\0\303\251\342\202\254\360\237\222\226' >"$scratch/constant"
     rm -f "$scratch/read"
@@ -118,8 +120,8 @@ compare_constant() {
     fi
 }
 
-# Keeps for the end that a peer was not run, and why: `not_run PEER WHY [FILE]`. The file has the
-# peer's own words.
+# Stores for the end that an implementation was not run, and why: `not_run PEER WHY [FILE]`. The
+# file has the messages of the implementation.
 not_run() {
     summary+="$1 $2: skipped"$'\n'
     [[ -z ${3-} ]] || head -n 5 "$3" >&2
@@ -132,7 +134,7 @@ run_java() {
         not_run java 'is missing'
         return
     fi
-    # A program that only tells its version shows whether this is a JDK that runs.
+    # A program that only prints its version shows whether this is a JDK that runs.
     cat >"$scratch/Version.java" <<'JAVA'
 class Version {
     public static void main(String[] arguments) {
@@ -147,9 +149,9 @@ JAVA
         not_run java 'is here and cannot be run' "$scratch/java.error"
         return
     fi
-    # From here on, whatever goes wrong counts.
+    # From here on every failure counts.
     cp "$top/tests/peers/Peer.java" "$scratch/" || exit 2
-    # In the locale C it finds no file where the folder's name is not ASCII.
+    # In the locale C, java finds no file in a folder whose name is not ASCII.
     (cd "$scratch" && export LC_ALL=C.UTF-8 && javac -d classes Peer.java && java -cp classes Peer) \
         </dev/null 2>"$scratch/java.error"
     status=$?
@@ -165,7 +167,7 @@ JAVA
     compare_all java cesu8
 }
 
-# What ICU makes of each text.
+# Converts each text with ICU.
 run_uconv() {
     local name
     if ! command -v uconv >/dev/null; then

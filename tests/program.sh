@@ -1,5 +1,5 @@
-# The built program, for the scripts that run it. A script sources this file, and sets `top` before,
-# the repository's folder, and `scratch`, a folder for what the build prints.
+# The built program, for the scripts that run it. A script sources this file, and first sets `top`,
+# the repository's folder, and `scratch`, a folder for the output of the build.
 # shellcheck shell=bash disable=SC2154
 
 # The gate names the program that it has proved and linked, so it is not proved again.

@@ -1,5 +1,5 @@
-# Whether python3 has what the wheel's module in C is built from, for the scripts that build the wheel or
-# test it.
+# Whether python3 has what is needed to build the wheel's C module, for the scripts that build or
+# test the wheel.
 # shellcheck shell=bash
 has_python_header() {
     python3 - <<'PYTHON' 2>/dev/null

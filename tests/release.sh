@@ -1,4 +1,4 @@
-# The release, for the scripts that use what dist.sh makes. A script sources this file after
+# The release that dist.sh makes, for the scripts that use it. A script sources this file after
 # tests/lib.sh.
 # shellcheck shell=bash disable=SC2034,SC2154
 
@@ -8,8 +8,8 @@ name=cesu8-$version-x86_64-linux
 cross_name=cesu8-$version-aarch64-linux
 
 # Sets `release`, the folder that dist.sh has filled, `unpacked`, the folder that its archive holds,
-# and `seconds`, when its commit was made. Where RELEASE names no such folder it runs dist.sh. If a
-# tool that this needs is missing, WHAT is skipped: `find_release WHAT`.
+# and `seconds`, the time of its commit. If RELEASE names no such folder, it runs dist.sh. If a tool
+# that this needs is missing, WHAT is skipped: `find_release WHAT`.
 find_release() {
     local tool
     release=${RELEASE-}
@@ -31,8 +31,8 @@ find_release() {
     seconds=$(stat -c %Y "$unpacked/BUILT-FROM") || exit 2
 }
 
-# From here on builds for aarch64, and runs it in an emulator. If a tool for that is missing, WHAT is
-# skipped: `for_aarch64 WHAT`.
+# Makes the script build for aarch64 from here on, and run what it builds in an emulator. If a tool
+# for that is missing, WHAT is skipped: `for_aarch64 WHAT`.
 for_aarch64() {
     local missing
     # shellcheck source=tests/cross.sh

@@ -1,10 +1,11 @@
-# For tests/dist.sh and tests/aarch64.sh: runs the examples but keys.c, and cesu8_damage. It uses what these
-# scripts set.
+# For tests/dist.sh and tests/aarch64.sh: runs cesu8_damage and the examples except keys.c. It uses
+# the variables of these scripts.
 # shellcheck shell=bash disable=SC2154
 
-# A class file as the Java Virtual Machine Specification has it (4.1, 4.4), up to its constants: each
-# kind of them, a Long and a Double taking two places, and among them three strings: "caf" and U+00E9,
-# the empty one, and U+0000 with U+1F496. A last one has half of a surrogate pair.
+# Prints a class file as the Java Virtual Machine Specification defines it (4.1, 4.4), up to the end
+# of its constants. It has a constant of each kind, of which a Long and a Double take two places.
+# Three constants are strings: "caf" and U+00E9, the empty string, and U+0000 with U+1F496. The last
+# constant has half of a surrogate pair.
 class_file() {
     printf '\312\376\272\276\0\0\0\101\0\27'
     printf '\1\0\5caf\303\251\3\0\0\0\1\4\0\0\0\0\5\0\0\0\0\0\0\0\1\6\0\0\0\0\0\0\0\0'
@@ -13,8 +14,8 @@ class_file() {
     printf '\1\0\4a\355\240\275'
 }
 
-# That an example fails and says why if it can't read, as from a folder, or can't write the strings of
-# a file: `fails_with_system NAME PROGRAM FILE`.
+# Tests that an example fails and says why if it can't read its input, which is a folder, or can't
+# write the strings of a file: `fails_with_system NAME PROGRAM FILE`.
 fails_with_system() {
     "$2" "$scratch" >"$scratch/printed" 2>"$scratch/said" &&
         wrong "$1 takes a folder for an empty file"
@@ -25,8 +26,8 @@ fails_with_system() {
         wrong "$1 does not say that a write failed"
 }
 
-# That a program stops reading once a write has failed. It has endless input, and has to end with this
-# status: `stops_reading NAME STATUS PROGRAM WORD..`.
+# Tests that a program stops reading after a failed write. Its input is endless, and it has to end
+# with this status: `stops_reading NAME STATUS PROGRAM WORD..`.
 stops_reading() {
     local name=$1 wanted=$2 status=0
     shift 2
@@ -46,7 +47,7 @@ in_class_file() {
         printf '1 caf\303\251\n20 \n21 \0\360\237\222\226\n'
         printf '22 a\357\277\275\357\277\275\357\277\275\n'
     } | cmp - "$scratch/printed" || wrong 'class_constants.c prints other constants'
-    # The last string is at 112, and half of a pair behind its first byte.
+    # The last string is at offset 112, and the half pair begins after its first byte.
     diff <(echo "$scratch/constants.class: constant 22, offset 113: invalid input") "$scratch/said" ||
         wrong 'class_constants.c does not tell a fault'
     in_damaged_class_files "$program"
@@ -54,10 +55,10 @@ in_class_file() {
     echo 'class_constants.c was built and run'
 }
 
-# Files that class_constants.c has to refuse, with what it printed before: a string that is cut off, a pool
-# that is cut between two constants and within one, and files that begin otherwise. And one whose only string
-# is as long and as damaged as can be. The allocator fills new memory with 01, which would be read as more
-# constants.
+# Files that class_constants.c has to reject, after the strings that it printed: one with a string
+# that is cut off, files that are cut off between two constants and within one, and files that begin
+# with other bytes. Another file's only string is as long and as damaged as possible. The allocator
+# fills new memory with 01, which would be read as more constants.
 in_damaged_class_files() {
     local file=$scratch/damaged.class whole=$scratch/constants.class magic marks
     export MALLOC_PERTURB_=254
@@ -79,7 +80,7 @@ in_damaged_class_files() {
     unset MALLOC_PERTURB_
 }
 
-# That class_constants.c refuses a file at this offset, and prints so many of its strings:
+# Tests that class_constants.c rejects a file at this offset, after COUNT of its strings:
 # `refuses_class PROGRAM FILE OFFSET COUNT`.
 refuses_class() {
     "$1" "$2" >"$scratch/printed" 2>"$scratch/said"
@@ -89,13 +90,14 @@ refuses_class() {
         wrong "class_constants.c prints other strings of a file that it refuses at $3"
 }
 
-# What cesu8_damage, the program in `teller`, prints of its input, and its status: `damage WORD..`.
+# Prints what cesu8_damage, the program in `teller`, prints for its input, and its status:
+# `damage WORD..`.
 damage() {
     "$teller" "$@"
     echo $?
 }
 
-# That cesu8_damage ends with this status, and prints nothing but one line that says why:
+# Tests that cesu8_damage ends with this status, and prints nothing but one line that says why:
 # `damage_fails STATUS LINE WORD..`.
 damage_fails() {
     local wanted=$1 line=$2
@@ -104,8 +106,9 @@ damage_fails() {
     diff "$scratch/said" <(echo "$line") || wrong "cesu8_damage says something else for: $*"
 }
 
-# Files with no damage, with some of each kind, and of more than one piece, so that the end of a piece cuts
-# a pair in each way, and a stretch: `in_damaged_file PROGRAM`.
+# Runs cesu8_damage on files without damage, with damage of each kind, and of more than one piece.
+# The end of a piece cuts a surrogate pair at each place, and also a damaged stretch:
+# `in_damaged_file PROGRAM`.
 in_damaged_file() {
     local teller=$1 pairs=$scratch/pairs file=$scratch/damaged shown
     printf 'ab\n\377c\n\n\355\240\275d\300\200\0e\342\202' >"$file"
@@ -142,7 +145,8 @@ in_damaged_file() {
     echo 'cesu8_damage was run'
 }
 
-# Pairs in several pieces: whole, after up to five letters, and cut at the end.
+# Runs cesu8_damage on surrogate pairs in several pieces: whole, after up to five letters, and cut
+# off at the end.
 in_pieces() {
     local front
     {
@@ -160,10 +164,10 @@ in_pieces() {
         wrong 'cesu8_damage does not find a cut pair'
 }
 
-# Runs in_pieces by a build that fails if it touches bytes outside its arrays.
+# Runs in_pieces with a build that fails if it accesses bytes outside its arrays.
 sanitize_pieces() {
     local teller=$scratch/sanitized flags=(-fsanitize=address -O1 -g)
-    # What looks for leaks does not run everywhere.
+    # The leak detector does not run everywhere.
     local -x ASAN_OPTIONS=detect_leaks=0
     local what='cesu8_damage with the address sanitizer'
     if can_build "$what" "$c_compiler" "${flags[@]}" -o "$scratch/probe" "$scratch/probe.c" &&
@@ -175,7 +179,7 @@ sanitize_pieces() {
     fi
 }
 
-# Where each of its requests for memory is refused in turn, cesu8_damage says so, or does without:
+# Makes each allocation of cesu8_damage fail in turn. It has to report this, or do without:
 # `refuse_memory FILE`.
 refuse_memory() {
     local refused status told=0
@@ -198,7 +202,8 @@ refuse_memory() {
     ((told)) || wrong 'cesu8_damage has no status for memory'
 }
 
-# A file of 100 MB in little memory, and in a time that a second look at the bytes of a piece would pass.
+# Runs cesu8_damage on a file of 100 MB with little memory. It would exceed the time limit if it
+# read the bytes of a piece again.
 limit_memory() {
     local seconds=$SECONDS
     filled 50000000 '\xFF' >"$scratch/long"
@@ -210,8 +215,9 @@ limit_memory() {
     rm "$scratch/long"
 }
 
-# The strings of a file, as writeUTF writes them: those of the class file above, the longest one, and
-# one with line ends. The last is cut off or damaged in some.
+# Runs java_strings.sh on the strings of a file, as writeUTF writes them: those of the class file
+# above, the longest string, and one with line ends. In some files the last string is cut off or
+# damaged.
 in_java_file() {
     local script=$unpacked/examples/java_strings.sh strings=$scratch/strings long
     export CESU8_CLI=$unpacked/bin/cesu8_cli
@@ -233,16 +239,16 @@ in_java_file() {
             wrong "java_strings.sh prints other strings before $damage"
     done
     fails_with_system java_strings.sh "$script" "$strings"
-    # Of an empty string only the end of its line is written.
+    # For an empty string, only the line end is written.
     printf '\0\0' >"$scratch/empty_string"
     fails_with_system java_strings.sh "$script" "$scratch/empty_string"
     unset CESU8_CLI
     echo 'java_strings.sh was run'
 }
 
-# The strings of a file to code units, which java_units.c keeps where a surrogate has no partner: the two
-# halves of a pair apart, the pair, the wrong way round, and before a pair. Then those of the JDK's own
-# class files, as `readUTF` reads them.
+# Runs java_units.c, which prints the code units of a file's strings. It keeps unpaired surrogates:
+# the two halves of a pair in different strings, in the wrong order, and before a pair. Then it runs
+# with the strings of the JDK's own class files, as `readUTF` reads them.
 in_java_units() {
     local program=$scratch/java_units strings=$scratch/strings_of_units count
     compile -std=c99 -O2 -Wall -Wextra -Wconversion -pedantic -Werror -I "$unpacked/include" \
@@ -275,7 +281,8 @@ in_java_units() {
     rm -r "$scratch/jdk"
 }
 
-# That java_units.c refuses what is behind the strings of in_java_units: `refuses_units BYTES WHY`.
+# Tests that java_units.c rejects these bytes after the strings of in_java_units:
+# `refuses_units BYTES WHY`.
 refuses_units() {
     { cat "$scratch/strings_of_units"; printf '%b' "${1//\\/\\0}"; } >"$scratch/damaged"
     "$scratch/java_units" "$scratch/damaged" >"$scratch/printed" 2>"$scratch/said"

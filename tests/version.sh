@@ -1,10 +1,11 @@
 #!/usr/bin/env bash
-# Compares the file VERSION with what names the version: the macros of the header for C, the nodes of
-# the version map, the first heading of CHANGELOG.md with a version, and on the pages the names of
-# archives and of the shared object, and what CMake is asked for. The files of crates/cesu8_static/package
-# get the version from dist.sh, so they name none, and the man page, the archive's README and the files
-# for pkg-config and CMake have a place for it. It prints each difference. The status is 0 if there is none.
-# It needs bash, grep, sed and the core utilities.
+# Compares the file VERSION with every place that names the version: the macros of the header for C,
+# the nodes of the version map, the first heading of CHANGELOG.md with a version, and on the pages
+# the names of archives and of the shared object, and the version that CMake is asked for. The files
+# of crates/cesu8_static/package get the version from dist.sh, so they name none, and the man page,
+# the archive's README and the files for pkg-config and CMake have a placeholder for it. It prints
+# each difference. The status is 0 if there is none. It needs bash, grep, sed and the core
+# utilities.
 set -u
 unset CDPATH
 export LC_ALL=C
@@ -14,7 +15,8 @@ header=crates/cesu8_static/include/cesu8.h
 package=crates/cesu8_static/package
 wrong=0
 
-# Compares what a file names with what it has to name: `expect FILE WHAT WANTED FOUND`.
+# Compares a value that a file has with the one that it should have:
+# `expect FILE WHAT WANTED FOUND`.
 expect() {
     [[ $4 == "$3" ]] && return
     echo "wrong: $1 has the $2 '$4', and VERSION gives '$3'"
@@ -45,8 +47,8 @@ for page in *.md docs/*.md; do
     done < <(sed -n 's/.*find_package(cesu8 \([0-9.]*\).*/\1/p' "$page" | sort -u)
 done
 
-# The first node is that of the first version with this first number. A later one is of a version up to
-# VERSION, which has a new node only if a name came with it.
+# The first node is that of the first version with this major number. A later node is of a version
+# up to VERSION, which has a node of its own only if it added a name.
 nodes=$(sed -n 's/^CESU8_\([0-9.]*\) {$/\1/p' "$package/cesu8.map")
 expect "$package/cesu8.map" 'first node' "$major.0" "${nodes%%$'\n'*}"
 expect "$package/cesu8.map" 'newest node' "$minor" \
@@ -59,7 +61,7 @@ while IFS=: read -r page named; do
     wrong=1
 done < <(grep -oE 'CESU8_[0-9]+(\.[0-9]+)*' ./*.md docs/*.md)
 
-# That a file of package/ has a place for the version: `place FILE LINE`.
+# Tests that a file of package/ has a placeholder for the version: `place FILE LINE`.
 place() {
     grep -qxF -- "$2" "$package/$1" && return
     echo "wrong: $package/$1 lacks the line '$2'"
@@ -74,8 +76,8 @@ if grep -rnE '(^|[^0-9.])[0-9]+\.[0-9]+\.[0-9]+' "$package"; then
     wrong=1
 fi
 
-# The Python package, the fields of the Debian packages, and on the pages the names of these and of the
-# wheel.
+# The Python package, the fields of the Debian packages, and on the pages the names of the packages
+# and of the wheel.
 package_version=$(sed -n 's/^__version__ = "\(.*\)"$/\1/p' python/cesu8/__init__.py)
 expect python/cesu8/__init__.py version "$version" "$package_version"
 expect rust/crate/Cargo.toml version "$version" "$(sed -n 's/^version = "\(.*\)"$/\1/p' rust/crate/Cargo.toml)"

@@ -1,17 +1,18 @@
 #!/usr/bin/env bash
-# Installs the wheel of the release into a fresh environment, and tests it there by the files of
-# tests/wheel: on the standards' tables, all inputs of two bytes and all scalar values beside a plain
-# model, every error handler, every split of damaged bytes, files and streams, and Java's own bytes.
-# It also checks what the wheel holds, what its module shows, its alignment and its mark, and that
-# wheel.py writes the same bytes again. It then tests the wheel once more in each other Python from
-# 3.10 on that is there as python3.N and in the debug build that Debian's python3-dbg has, and the
-# module in C by itself under valgrind and with the address sanitizer; and the wheel for aarch64 in the
-# Python of AARCH64_ROOT (tests/cross.sh), in an emulator.
+# Installs the wheel of the release into a fresh environment, and tests it there with the files of
+# tests/wheel: on the standards' tables, on all inputs of two bytes and all scalar values, compared
+# with a plain model, with every error handler, every split of damaged bytes, files and streams, and
+# Java's own bytes. It also checks the wheel's contents, the names, the alignment and the mark of
+# its module, and that wheel.py writes the same bytes again. Then it tests the wheel in each other
+# Python from 3.10 on that is installed as python3.N, and in the debug build of Debian's
+# python3-dbg. It tests the C module by itself under valgrind and with the address sanitizer, and
+# the wheel for aarch64 in the Python of AARCH64_ROOT (tests/cross.sh), in an emulator.
 #
-# RELEASE names the folder that dist.sh has filled; where it is not set, dist.sh is run. Without
-# python3 with venv and the header that dist.sh needs, it says that it skipped everything; without Java,
-# a debug build, valgrind, the sanitizer or what it needs for aarch64, what it skipped. The status is 0 if
-# nothing is wrong. It needs readelf, nm, and what tests/release.sh does.
+# RELEASE names the folder that dist.sh has filled; if it is not set, this script runs dist.sh. If
+# python3 with venv or the header that dist.sh needs is missing, it says that it skipped everything.
+# If Java, a debug build, valgrind, the sanitizer or a tool for aarch64 is missing, it says what it
+# skipped. The status is 0 if nothing is wrong. It needs readelf, nm, and what tests/release.sh
+# needs.
 unset "${!PYTHON@}"
 # shellcheck source=tests/lib.sh
 source "$(dirname "${BASH_SOURCE[0]}")/lib.sh" || exit 2
@@ -20,8 +21,8 @@ source "$top/tests/release.sh" || exit 2
 # shellcheck source=tests/python_header.sh
 source "$top/tests/python_header.sh" || exit 2
 
-# What a wheel holds, and a second run of wheel.py, with another folder and umask: `look_at_wheel WHEEL
-# RELEASE FOLDER`, the folder that gets what the wheel holds.
+# Checks the contents of a wheel, and runs wheel.py again with another folder and umask:
+# `look_at_wheel WHEEL RELEASE FOLDER`. The wheel is unpacked to FOLDER.
 look_at_wheel() {
     local wheel=$1 unpacked=$2 site=$3/site-packages again=$3/again needed
     mkdir -p "$again" || exit 2
@@ -50,7 +51,7 @@ wanted += [f"{folder}/licenses/LICENSE-{name}" for name in licences]
 package = ["BUILT-FROM", "__init__.py", "_codec.py", "_native.abi3.so", "_native.pyi", "py.typed"]
 wanted += [f"cesu8/{name}" for name in package]
 assert names == wanted, names
-# An archive has even seconds alone.
+# The times in an archive are even seconds.
 date = time.gmtime(int(sys.argv[3]) // 2 * 2)[:6]
 assert all(entry.date_time == date for entry in entries)
 assert all(entry.external_attr >> 16 == 0o100644 for entry in entries)
@@ -70,8 +71,9 @@ PYTHON
     cmp "$wheel" "$again/${wheel##*/}" || wrong 'wheel.py writes other bytes in a second run'
 }
 
-# That the name of a wheel promises manylinux_2_17 just where it is for aarch64 and needs no newer C library,
-# by the versions of the module's dynamic symbols, and no other library: `look_at_tag WHEEL SITE NEEDED`.
+# Tests that the name of a wheel promises manylinux_2_17 exactly when it is for aarch64 and needs no
+# newer C library, by the versions of the module's dynamic symbols. It also tests that the module
+# needs no other library: `look_at_tag WHEEL SITE NEEDED`.
 look_at_tag() {
     local tag=${1##*/cesu8-"$version"-} platform=linux_x86_64
     if [[ $1 == *_aarch64.whl ]]; then
@@ -84,16 +86,17 @@ look_at_tag() {
         wrong "the module of ${1##*/} needs more than the C library"
 }
 
-# Where the functions of a module begin, by the frames that readelf prints: `functions_of MODULE`.
+# The addresses at which the functions of a module begin, from the frames that readelf prints:
+# `functions_of MODULE`.
 functions_of() {
     local text
     text=$(readelf -SW "$1" | sed -n 's/.* \.text *PROGBITS *\([0-9a-f]*\) .*/\1/p')
-    # What stands before is the linker's.
+    # The functions before that are the linker's.
     readelf -wf "$1" | sed -n 's/.* FDE .* pc=\([0-9a-f]*\)\.\..*/\1/p' |
         awk -v text="$text" '$1 "" >= text ""'
 }
 
-# That a module shows no name but the one by which Python loads it, that its functions begin at
+# Tests that a module exports only the name by which Python loads it, that its functions begin at
 # multiples of 32 bytes, and that it is marked as code for a level of x86-64, if one is named:
 # `look_at_module MODULE [LEVEL]`.
 look_at_module() {
@@ -101,7 +104,7 @@ look_at_module() {
         wrong "$1 shows other names"
     functions_of "$1" >"$scratch/functions"
     (($(wc -l <"$scratch/functions") > 15)) || wrong "$1 has few functions"
-    # The compiler's runtime adds two, which find out what the processor has.
+    # The compiler's runtime adds two, which detect the processor's features.
     grep -v '[02468ace]0$' "$scratch/functions" >"$scratch/misplaced"
     (($(wc -l <"$scratch/misplaced") < 4)) ||
         wrong "functions of $1 begin elsewhere than at multiples of 32 bytes: $(xargs <"$scratch/misplaced")"
@@ -109,7 +112,7 @@ look_at_module() {
         wrong "$1 is not marked as $2"
 }
 
-# A fresh environment with the wheel, without a network.
+# Makes a fresh environment with the wheel, without a network.
 install_wheel() {
     python=$scratch/environment/bin/python
     if python3 -c 'import ensurepip' 2>/dev/null; then
@@ -141,9 +144,9 @@ run_java() {
     fi
 }
 
-# Runs the tests of some files, of what is installed, or of what SITE holds: `run_tests PATTERN SITE
-# PYTHON..`. An isolated Python sees the folders of the tests alone by what they say. The tests that SLOW
-# names are left out.
+# Runs the tests of some files with the installed package, or with the one in SITE:
+# `run_tests PATTERN SITE PYTHON..`. An isolated Python finds the tests' folders only through the
+# arguments. The tests that SLOW names are left out.
 run_tests() {
     local arguments=("$top/tests/wheel" "$1" "$2")
     shift 2
@@ -178,8 +181,8 @@ PYTHON
     fi
 }
 
-# Tests the wheel in another Python, if it is there. A debug build looks at the borders of each block,
-# and at what each call returns.
+# Tests the wheel in another Python, if it is installed. A debug build checks the borders of each
+# memory block, and the result of each call.
 test_by() {
     if ! "$1" -c '' 2>"$scratch/said"; then
         [[ $1 != *-dbg ]] || echo "$1 is missing: a debug build of Python skipped"
@@ -189,8 +192,8 @@ test_by() {
     fi
 }
 
-# Tests the module in C by a build that fails if it touches bytes outside its arrays. Valgrind does not
-# know where those on the stack end.
+# Tests the C module with a build that fails if it accesses bytes outside its arrays. Valgrind does
+# not know where arrays on the stack end.
 test_sanitized() {
     local what='the module with the address sanitizer' site=$scratch/sanitized
     local flags=(-fsanitize=address -O1 -g) preload environment
@@ -201,7 +204,7 @@ test_sanitized() {
         echo "libasan.so is missing: $what skipped"
         return
     fi
-    # A look for leaks would find those of Python itself.
+    # The leak detector would find the leaks of Python itself.
     environment=(ASAN_OPTIONS=detect_leaks=0 "LD_PRELOAD=$preload" PYTHONMALLOC=malloc)
     can_build "$what" env "${environment[@]}" "$python" -c '' || return 0
     cp -R "$scratch/site-packages" "$site" || exit 2
@@ -212,8 +215,8 @@ test_sanitized() {
     run_tests test_native.py "$site" env "${environment[@]}" "$python" -s
 }
 
-# Tests the wheel for aarch64 in an emulator, in a Python for arm64. It leaves out what takes minutes there,
-# and is about the Python of the package more than about the module.
+# Tests the wheel for aarch64 in an emulator, in a Python for arm64. It leaves out the tests that
+# take minutes there, and that are more about the Python package than about the module.
 test_on_aarch64() {
     local wheel folder=$scratch/aarch64 unpacked=$scratch/unpacked/$cross_name python
     for_aarch64 'the wheel for aarch64' || return 0
@@ -230,7 +233,7 @@ test_on_aarch64() {
     mkdir "$folder" && tar xzf "$release/$cross_name.tar.gz" -C "$scratch/unpacked" || exit 2
     look_at_wheel "$wheel" "$unpacked" "$folder"
     look_at_module "$folder/site-packages/cesu8/_native.abi3.so"
-    # By the first argument Python knows how it is called, and calls itself so.
+    # Python takes its own path from the first argument.
     # shellcheck disable=SC2016
     printf '#!/bin/sh\nexec "%s" -0 "$0" -L "%s" "%s" "$@"\n' "$AARCH64_EMULATOR" "$AARCH64_ROOT" "$python" \
         >"$folder/python"
@@ -261,7 +264,7 @@ for other in python3.{10..20} python3-dbg; do
     test_by "$other"
 done
 if can_build 'the module under valgrind' valgrind --version; then
-    # Each object is a block of its own, so valgrind sees what is read or written beyond it.
+    # Each object is a block of its own, so valgrind detects an access beyond it.
     PYTHONMALLOC=malloc run_tests test_native.py "$scratch/site-packages" \
         valgrind -q --log-file="$scratch/valgrind" "$python" -s
     # An error of Python's own has no frame in the module.

@@ -1,10 +1,11 @@
-# Compares the words of docs/PROVED.md with the clauses that stand beside them:
+# Compares the words of docs/PROVED.md with the clauses beside them:
 #   awk -f words.awk tests/clauses.txt docs/PROVED.md
-# A row's text is the signatures and clauses that its last cell names, with all definitions that these cite.
-# A line is printed for each of these:
+# A row's text is the signatures and clauses that its last cell names, with all definitions that
+# these cite. It prints a line if
 # - the words have a name in code or a hexadecimal number that is not in the row's text;
-# - a clause names a fault, or `None`, that the words do not name;
-# - by the words a case comes "exactly where" something is so, and no clause says that both ways.
+# - a clause names an error, or `None`, that the words do not name;
+# - the words say that a case is returned "exactly when" something holds, and no clause says both
+#   directions.
 # Nothing else of the words is compared.
 
 # The lines of clauses.txt: of a public item by its crate and name, of a definition by its name.
@@ -43,7 +44,7 @@ function keep(clause) {
 
 BEGIN { keep_cases("Option", "None") }
 
-# Keeps the cases of a type. Those of a fault, and `None`, the words have to name.
+# Stores the cases of a type. The words have to name those of an error, and `None`.
 function keep_cases(type, list, words, count, i) {
     gsub(/\([^()]*\)/, "", list)
     gsub(/[^A-Za-z0-9_]+/, " ", list)
@@ -52,7 +53,7 @@ function keep_cases(type, list, words, count, i) {
     for (i = 1; i <= count && type ~ /^Option$|Fault$/; i++) is_fault[words[i]]
 }
 
-# The signature of a function: that of the row's crate, or else of another that has the name.
+# The signature of a function: that of the row's crate, or that of another crate if it has none.
 function told_signature(name) {
     return (crate, name) in signature_in ? signature_in[crate, name] : signature_of[name]
 }
@@ -74,7 +75,8 @@ function define(words, i) {
     body_of[crate, name] = body_of[crate, name] "\n" text
 }
 
-# Adds a piece to the row's text, with the definitions that it cites: the crate's own, or another's.
+# Adds a piece to the row's text, with the definitions that it cites. A definition of the crate
+# itself comes first.
 function add(piece, crate, words, count, i, at) {
     row_text = row_text "\n" piece
     gsub(/[^A-Za-z0-9_]+/, " ", piece)
@@ -103,7 +105,8 @@ function row(cells, cell, place) {
     compare_both_ways(place)
 }
 
-# Reads a row's last cell: `named` has the clauses, `row_text` also the rest, `cases` those of the types.
+# Reads a row's last cell. `named` gets the clauses, `row_text` all that the cell names, and `cases`
+# the cases of the types.
 function read_names(names, entry, entries, owner, owners, clause, clauses, at, i, j, k) {
     gsub(/[` ]/, "", names)
     entries = split(names, entry, ";")
@@ -127,8 +130,8 @@ function has(name) {
     return row_text ~ ("[^A-Za-z0-9_]" name "[^A-Za-z0-9_]")
 }
 
-# The names in code. The name of a case may also be in a type that a function returns which the row or its
-# words name.
+# Checks the names in code. The name of a case may also be in a type that is returned by a function
+# that the row or its words name.
 function compare_code(place, rest, code) {
     rest = words
     while (match(rest, /`[^`]+`/)) {
@@ -139,8 +142,8 @@ function compare_code(place, rest, code) {
     }
 }
 
-# Whether a name is a function's, the end of one, a crate's, or in the row's text. Rust's types and `{}` are
-# not compared.
+# Whether a name is a function's, the end of a function's, a crate's, or in the row's text. Rust's
+# types and `{}` are not compared.
 function is_right(code, name) {
     if (code ~ /^[&{]/ || code in signature_of || code in is_crate) return 1
     if (code ~ /^_/) {
@@ -167,7 +170,8 @@ function cases_of(signature, words, count, i, all) {
     return all
 }
 
-# The hexadecimal numbers: those of a character, 00, and those with a letter or before "(hexadecimal)".
+# Checks the hexadecimal numbers: those of a character, 00, and those with a letter or before
+# "(hexadecimal)".
 function compare_numbers(place, rest, number) {
     rest = words
     gsub(/`[^`]*`|UTF-(8|16)|[CM][A-Z]+-8/, "", rest)
@@ -181,8 +185,8 @@ function compare_numbers(place, rest, number) {
     }
 }
 
-# The faults that the row's clauses name by On, If or a type, and `None`. `Memory` is not compared, since
-# some rows call it out of memory, and others leave it out.
+# Checks the errors that the row's clauses name after On, If or a type, and `None`. `Memory` is not
+# compared, since some rows call it out of memory, and others leave it out.
 function compare_cases(place, rest, name) {
     rest = named
     while (match(rest, /(On|If)[A-Z][a-z]+|Fault\.[A-Z][A-Za-z]+/)) {
@@ -194,8 +198,9 @@ function compare_cases(place, rest, name) {
     }
 }
 
-# A case that comes "exactly where" something is so: an equivalence has it on its left, or both cases of
-# an `Option` have clauses, or a clause leaves no other fault than out of memory.
+# Checks each case that is returned "exactly when" something holds: an equivalence has it on its
+# left, or both cases of an `Option` have clauses, or a clause allows no other error than out of
+# memory.
 function compare_both_ways(place, rest, name) {
     rest = words
     while (match(rest, /`[A-Za-z_]+`( [a-z]+)? exactly (where|when|if|for)/)) {
