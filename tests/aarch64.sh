@@ -33,14 +33,14 @@ look_at_files() {
     diff <(cd "$native" && find . ! -type d -printf '%P %M\n' | sort |
         grep -vE '^(bin/|share/man/man1/|share/bash-completion/|PROGRAM.md |examples/.*\.sh )') \
         <(cd "$unpacked" && find . ! -type d -printf '%P %M\n' | sort) ||
-        wrong 'the release for aarch64 has other files'
+        wrong 'the release for aarch64 has different files'
     while read -r file; do
         cmp "$native/$file" "$unpacked/$file" || wrong "$file differs from that for x86-64"
     done < <(cd "$unpacked" && find . -type f -printf '%P\n' | grep -vE "$others")
     grep -rlF -e "$scratch/" -e "$top/" "$unpacked" && wrong 'these name a folder of this machine'
-    grep -rlI '@[A-Z][A-Z]*@' "$unpacked" && wrong 'these are not filled in'
+    grep -rlI '@[A-Z][A-Z]*@' "$unpacked" && wrong 'these have unfilled placeholders'
     grep -nIE 'cesu8_cli|bin/cesu8_damage' "$unpacked"/{C,README,SECURITY}.md &&
-        wrong 'these are about the programs'
+        wrong 'these lines are about the programs'
 }
 
 # The names that the archive defines, and those that it requires. It requires nothing that depends
@@ -49,29 +49,29 @@ look_at_archive() {
     local archive=$unpacked/lib/libcesu8.a asked
     diff <({ exports | sed 's/.*/&\n&_v8/'; plain_calls; } | sed 's/^/T cesu8_/' | sort) \
         <(cross nm -g --defined-only "$archive" 2>/dev/null | awk 'NF == 3 { print $2, $3 }' | sort) ||
-        wrong 'the archive shows other names'
+        wrong 'the archive exports the wrong names'
     asked=$(cross nm -u "$archive" 2>/dev/null | awk 'NF == 2 { print $2 }' | sort -u |
         grep -vxE 'mem(cpy|move|set|cmp)|cesu8_.*_v8')
-    [[ -z $asked ]] || wrong "the archive asks for other names: $asked"
+    [[ -z $asked ]] || wrong "the archive requires other names: $asked"
     cross readelf -SW "$archive" 2>/dev/null | grep -F ' .debug' && wrong 'the archive is not stripped'
     cross readelf -SW "$archive" 2>/dev/null | are_aligned ||
-        wrong 'these parts of the archive are aligned otherwise'
+        wrong 'these parts of the archive have the wrong alignment'
 }
 
 look_at_shared() {
     local file=$unpacked/lib/libcesu8.so.$major dynamic needed
     diff <(mapped | sed 's/^/T /' | sort) \
         <(cross nm -D --defined-only "$file" | awk '$2 != "A" { print $2, $3 }' | sort) ||
-        wrong 'the shared object shows other names than the version map'
+        wrong 'the shared object exports other names than the version map'
     cross nm -D --defined-only "$file" | grep -E '([13579bdf]0|[^0]) T ' &&
-        wrong 'these functions of the shared object begin elsewhere than at multiples of 32 bytes'
+        wrong 'these functions of the shared object do not begin at multiples of 32 bytes'
     dynamic=$(cross readelf -dW "$file")
-    grep -q "SONAME.*\[libcesu8.so.$major\]" <<<"$dynamic" || wrong 'the shared object has another name'
-    grep -q 'FLAGS.*BIND_NOW' <<<"$dynamic" || wrong 'the shared object binds its names late'
+    grep -q "SONAME.*\[libcesu8.so.$major\]" <<<"$dynamic" || wrong 'the shared object has the wrong name'
+    grep -q 'FLAGS.*BIND_NOW' <<<"$dynamic" || wrong 'the shared object uses lazy binding'
     grep -q TEXTREL <<<"$dynamic" && wrong 'the loader would write to the code'
     grep NEEDED <<<"$dynamic" | grep -v '\[libc.so.6\]' && wrong 'the shared object needs more than libc'
     cross readelf -lW "$file" | grep -q 'GNU_STACK .* RW ' ||
-        wrong 'the shared object wants a stack that can be run'
+        wrong 'the shared object needs an executable stack'
     cross readelf -SW "$file" | grep -E ' \.(symtab|debug)' && wrong 'the shared object is not stripped'
     needed=$(cross objdump -T "$file" | grep -o 'GLIBC_[0-9.]*' | sort -V | tail -n 1)
     grep -qx "aarch64 libcesu8.so.$major needs the GNU C library ${needed#GLIBC_}" "$unpacked/BUILT-FROM" ||
@@ -82,11 +82,11 @@ look_at_shared() {
 by_the_page() {
     local lines
     lines=$(sed -n '/^    set(CMAKE_SYSTEM_NAME/,/^$/s/^    //p' "$unpacked/C.md")
-    (($(grep -c . <<<"$lines") == 6)) || wrong 'C.md has not six lines for another processor'
+    (($(grep -c . <<<"$lines") == 6)) || wrong 'C.md does not have six lines for another processor'
     grep '^set' <<<"$lines" | sed "s/aarch64-linux-gnu-gcc/${AARCH64_CC//\//\\/}/" >"$scratch/aarch64.cmake"
     if can_build_by_cmake 'keys.c by CMake for aarch64' "-DCMAKE_TOOLCHAIN_FILE=$scratch/aarch64.cmake"; then
         grep -qxF "cmake -DCMAKE_TOOLCHAIN_FILE=aarch64.cmake -DCMAKE_PREFIX_PATH=\$release -S . -B build" \
-            <<<"$lines" || wrong 'C.md calls CMake otherwise'
+            <<<"$lines" || wrong 'C.md calls CMake differently'
         by_cmake 'keys.c by CMake for aarch64' "-DCMAKE_TOOLCHAIN_FILE=$scratch/aarch64.cmake" \
             "-DCMAKE_PREFIX_PATH=$unpacked"
         refuses_the_other "$native" "-DCMAKE_TOOLCHAIN_FILE=$scratch/aarch64.cmake"
@@ -94,7 +94,7 @@ by_the_page() {
     fi
     if can_build 'keys.c by pkg-config for aarch64' pkg-config --version; then
         grep -qxF "export PKG_CONFIG_LIBDIR=\"\$release/lib/pkgconfig\"" <<<"$lines" ||
-            wrong 'C.md names another folder for pkg-config'
+            wrong 'C.md names the wrong folder for pkg-config'
         export PKG_CONFIG_LIBDIR=$unpacked/lib/pkgconfig
         by_both 'keys.c by pkg-config for aarch64' -Wl,-rpath,"$unpacked/lib"
         unset PKG_CONFIG_LIBDIR
@@ -109,7 +109,7 @@ refuses_the_other() {
     mkdir "$folder" && printf '%s\n' 'project(other C)' "find_package(cesu8 $version QUIET)" \
         'if(cesu8_FOUND)' '    message(FATAL_ERROR found)' 'endif()' >"$folder/CMakeLists.txt" || exit 2
     quietly cmake -S "$folder" -B "$folder/build" "-DCMAKE_PREFIX_PATH=$release" "$@" ||
-        wrong "CMake takes the library in ${release##*/} for another processor"
+        wrong "CMake accepts the library in ${release##*/} for another processor"
 }
 
 # Compares what tests/digest.c prints here and on aarch64.
@@ -125,7 +125,7 @@ compare_answers() {
     here=$("$scratch/digest") || wrong 'tests/digest.c fails on x86-64'
     there=$("${emulator[@]}" "$scratch/digest_aarch64") || wrong 'tests/digest.c fails on aarch64'
     printf 'x86-64:  %s\naarch64: %s\n' "$here" "$there"
-    [[ $here == "$there" ]] || wrong 'the answers on aarch64 are others'
+    [[ $here == "$there" ]] || wrong 'the results on aarch64 differ'
 }
 
 for_aarch64 'the release for aarch64' || exit 0
@@ -143,7 +143,7 @@ mkdir "$scratch/shown" || exit 2
 call_exports -DARCHIVE "$unpacked/lib/libcesu8.a"
 call_exports -DARCHIVE "$unpacked/lib/libcesu8.so.$major" -Wl,-rpath,"$unpacked/lib"
 by_the_page
-if can_build_cpp 'the file of C++ for aarch64'; then
+if can_build_cpp 'the C++ file for aarch64'; then
     in_cpp "$unpacked"
 fi
 shown_in_page

@@ -34,5 +34,5 @@ call_exports() {
         wrong 'tests/exports.c does not build'
         return
     fi
-    "${emulator[@]}" "$scratch/exports" || wrong 'tests/exports.c finds what it tells above'
+    "${emulator[@]}" "$scratch/exports" || wrong 'tests/exports.c found the errors above'
 }

@@ -8,7 +8,7 @@ example() {
     if "${emulator[@]}" "$1" 2>&1 | diff - "$crate/examples/keys.stdout"; then
         echo "$2 was built and run"
     else
-        wrong "$2 prints other than examples/keys.stdout"
+        wrong "$2 does not print examples/keys.stdout"
     fi
 }
 
@@ -103,11 +103,11 @@ int main()
 CPP
     if ! quietly "$cpp_compiler" -std=c++11 -Wall -Wextra -Werror -pedantic -I "$1/include" \
         -o "$scratch/encode" "$scratch/encode.cpp" "$1/lib/libcesu8.a"; then
-        wrong 'the file of C++ does not build'
+        wrong 'the C++ file does not build'
     elif [[ $("${emulator[@]}" "$scratch/encode") == "$version" ]]; then
-        echo 'a file of C++ was built and run'
+        echo 'a C++ file was built and run'
     else
-        wrong 'the file of C++ says something else'
+        wrong 'the C++ file prints something else'
     fi
 }
 

@@ -150,9 +150,9 @@ sources() {
 
 # Notes public functions that have a requirement, or no contract.
 rules() {
-    told '!requires' | none 'a public function asks something of its caller'
+    told '!requires' | none 'a public function requires something of its caller'
     told '!none' | none 'public, and without a contract'
-    told '!unread' | none 'tests/contracts.awk does not know how to read'
+    told '!unread' | none 'tests/contracts.awk cannot read'
     grep -rl --include='*.rt' '^#\[unsafe(no_mangle)\]' crates/cesu8_static/src |
         grep -v '/\(lib\|mutf8\|java\)\.rt$' | none 'an export in a module that is not public'
 }
@@ -218,7 +218,7 @@ readme() {
         none 'named in README.md, and not there'
     cut -d ' ' -f 2 "$scratch/sources" | sort -u >"$scratch/names"
     grep -o '`laws::[a-z_]*`' README.md | tr -d '`' | sort -u | comm -13 "$scratch/names" - |
-        none 'named in README.md, and no law'
+        none 'named in README.md, and not a law'
 }
 
 # Tests that the functions that pages pass to `rt check`, as CRATE::MODULE::FUNCTION, are in the
@@ -252,7 +252,7 @@ checked
 diff tests/clauses.txt "$scratch/clauses.txt" | grep '^[<>]' |
     none 'tests/clauses.txt (<) is not what the sources say (>)'
 cmp -s tests/clauses.txt "$scratch/clauses.txt" ||
-    echo 'tests/clauses.sh --write writes tests/clauses.txt anew'
+    echo 'tests/clauses.sh --write updates tests/clauses.txt'
 
 cat "$scratch/wrong"
 echo "$(wc -l <"$scratch/sources") clauses, $(wc -l <"$scratch/wrong") wrong"

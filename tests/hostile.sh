@@ -69,7 +69,7 @@ write_readings() {
     [[ -n $codec ]] || return
     for flavor in cesu8 mutf8; do
         "$codec" decode_lossy_strict "$flavor" <"$scratch/million" >"$scratch/read" ||
-            wrong "the plain codec reads no $flavor"
+            wrong "the plain codec fails for $flavor"
         copies $((length / 1000000)) "$scratch/read" >"$scratch/$flavor"
     done
 }

@@ -6,8 +6,8 @@
 # Builds keys.c with pkg-config: `by_pkg_config LIBDIR WHAT`. LIBDIR is the folder of the libraries.
 by_pkg_config() {
     export PKG_CONFIG_PATH=$1/pkgconfig
-    [[ $(pkg-config --modversion cesu8) == "$version" ]] || wrong "$2 has another version"
-    [[ $(pkg-config --variable=libdir cesu8) -ef $1 ]] || wrong "$2 has another libdir"
+    [[ $(pkg-config --modversion cesu8) == "$version" ]] || wrong "$2 has the wrong version"
+    [[ $(pkg-config --variable=libdir cesu8) -ef $1 ]] || wrong "$2 has the wrong libdir"
     by_both "$2" -Wl,-rpath,"$(pkg-config --variable=libdir cesu8)"
     unset PKG_CONFIG_PATH
 }
@@ -47,7 +47,7 @@ set(CMAKE_SYSTEM_PROCESSOR aarch64)
 look(0)
 CMAKE
     quietly cmake -S "$folder" -B "$folder/build" -DCMAKE_PREFIX_PATH="$unpacked" ||
-        wrong 'CMake takes other versions'
+        wrong 'CMake accepts the wrong versions'
 }
 
 # Installs to a folder, moves the folder, and builds there: `install_to LIBDIR GIVEN`. LIBDIR is the
@@ -84,9 +84,9 @@ uninstall() {
     touch "$1/bin/other" || exit 2
     files=$(find "$1" ! -type d ! -name other | sort)
     quietly "$1/share/doc/cesu8/uninstall.sh" || wrong 'uninstall.sh fails'
-    diff <(echo "$files") <(sort "$scratch/said") || wrong 'uninstall.sh prints other files'
+    diff <(echo "$files") <(sort "$scratch/said") || wrong 'uninstall.sh prints the wrong files'
     diff <(echo "$1/bin/other") <(find "$1" '(' ! -type d -o -name cesu8 ')') ||
-        wrong 'uninstall.sh leaves other files'
+        wrong 'uninstall.sh leaves the wrong files'
 }
 
 # Installs to a folder given by a relative path. install.sh is called in another folder than the
@@ -98,7 +98,7 @@ install_beside() {
         wrong 'install.sh fails for a relative PREFIX'
     diff <(find "$folder/to/prefix" ! -type d | sort) <(sort "$scratch/said") ||
         wrong 'install.sh prints other files than it installs for a relative PREFIX'
-    [[ -x $folder/to/prefix/bin/cesu8_cli ]] || wrong 'install.sh takes a relative PREFIX otherwise'
+    [[ -x $folder/to/prefix/bin/cesu8_cli ]] || wrong 'install.sh installs to the wrong folder for a relative PREFIX'
     diff -r "$unpacked" "$folder/release" ||
         wrong 'install.sh writes to the release for a relative PREFIX'
     uninstall "$folder/to/prefix"
@@ -109,8 +109,8 @@ install_beside() {
 install_twice() {
     local prefix=$scratch/twice
     "$unpacked/install.sh" "$prefix" | head -n 1 >"$scratch/said"
-    [[ -s $scratch/said ]] || wrong 'install.sh prints nothing for the first time'
-    quietly "$unpacked/install.sh" "$prefix" lib64 || wrong 'install.sh fails for the second time'
+    [[ -s $scratch/said ]] || wrong 'install.sh prints nothing the first time'
+    quietly "$unpacked/install.sh" "$prefix" lib64 || wrong 'install.sh fails the second time'
     uninstall "$prefix"
 }
 
@@ -119,12 +119,12 @@ install_twice() {
 install_half() {
     local prefix=$scratch/half
     mkdir -p "$prefix/share" && touch "$prefix/share/man" || exit 2
-    "$unpacked/install.sh" "$prefix" >"$scratch/said" 2>&1 && wrong 'install.sh does not fail on its way'
+    "$unpacked/install.sh" "$prefix" >"$scratch/said" 2>&1 && wrong 'install.sh does not fail'
     [[ -x $prefix/bin/cesu8_cli && ! -e $prefix/share/doc/cesu8/C.md ]] ||
         wrong 'install.sh does not fail half-way'
-    quietly "$prefix/share/doc/cesu8/uninstall.sh" || wrong 'uninstall.sh fails after half of install.sh'
+    quietly "$prefix/share/doc/cesu8/uninstall.sh" || wrong 'uninstall.sh fails after an incomplete installation'
     diff <(echo "$prefix/share/man") <(find "$prefix" '(' ! -type d -o -name cesu8 ')') ||
-        wrong 'uninstall.sh leaves something of half of install.sh'
+        wrong 'uninstall.sh leaves files of an incomplete installation'
 }
 
 # Installs below DESTDIR, as for a package, with a /lib that is a link to /usr/lib.
@@ -134,14 +134,14 @@ install_below() {
         wrong 'install.sh fails with DESTDIR'
     ln -s usr/lib "$root/lib" || exit 2
     grep -qx 'prefix=/usr' "$root/usr/$libdir/pkgconfig/cesu8.pc" ||
-        wrong 'the file for pkg-config has another prefix'
+        wrong 'the file for pkg-config has the wrong prefix'
     grep -rlF "$scratch" "$root" && wrong 'these name DESTDIR'
     # All of the release is there but the two scripts.
     files=$(cd "$unpacked" && find . ! -type d ! -name '*install.sh' -printf '%P %M\n' |
         sed -E -e "s,^lib/,usr/$libdir/," -e 's,^(bin|include|share)/,usr/&,' \
             -e 's,^(examples/.*|[^/]*)$,usr/share/doc/cesu8/&,' | sort)
     diff <(echo "$files") <(cd "$root" && find usr ! -type d -printf '%p %M\n' | sort) ||
-        wrong 'install.sh installs other files'
+        wrong 'install.sh installs the wrong files'
     if [[ -n $has_pkg_config ]]; then
         export PKG_CONFIG_SYSROOT_DIR=$root PKG_CONFIG_PATH=$root/usr/$libdir/pkgconfig
         export PKG_CONFIG_ALLOW_SYSTEM_CFLAGS=1 PKG_CONFIG_ALLOW_SYSTEM_LIBS=1
@@ -161,7 +161,7 @@ refuses() {
         status=$?
     ((status == 2)) || wrong "install.sh ends with status $status for: $*"
     [[ ! -s $scratch/printed ]] || wrong "install.sh prints something for: $*"
-    grep -q '^usage: ' "$scratch/said" || wrong "install.sh does not say how it is called for: $*"
+    grep -q '^usage: ' "$scratch/said" || wrong "install.sh does not print its usage for: $*"
     [[ -z $(find "$scratch/nowhere" -mindepth 1 ! -type l) ]] ||
         wrong "install.sh writes something for: $*"
     diff -r "$unpacked" "$scratch/unpacked_before" || wrong "install.sh writes to the release for: $*"
@@ -172,7 +172,7 @@ helps() {
     (cd "$unpacked" && sh "$@") >"$scratch/printed" 2>"$scratch/said" ||
         wrong "this fails: $*"
     [[ $(<"$scratch/printed") == 'usage: '* && ! -s $scratch/said ]] ||
-        wrong "this does not say how it is called: $*"
+        wrong "this does not print its usage: $*"
 }
 
 look_at_refusals() {
@@ -196,7 +196,7 @@ look_at_refusals() {
     helps uninstall.sh --help
     for word in '' "$prefix" -x; do
         (cd "$scratch/nowhere" && sh "$unpacked/uninstall.sh" ${word:+"$word"}) >"$scratch/said" 2>&1
-        [[ $? == 2 && $(<"$scratch/said") == *usage:* ]] || wrong "uninstall.sh takes: $word"
+        [[ $? == 2 && $(<"$scratch/said") == *usage:* ]] || wrong "uninstall.sh accepts: $word"
     done
     refuses "$unpacked"
     refuses "$unpacked/"

@@ -126,7 +126,7 @@ wrong() {
                     line = substr(line, RSTART + RLENGTH)
                     sub(/^[^A-Za-z0-9_]/, "", name)
                     if (!is_in_library && index(library, " " name " "))
-                        print "a crate that simd_cesu8 stands on: " file ": " name
+                        print "a crate that simd_cesu8 is built on: " file ": " name
                 }
                 while (match($0, /[A-Za-z0-9_]+\.proofs(\.[A-Za-z0-9_]+)?/)) {
                     module = substr($0, RSTART, RLENGTH)
@@ -161,7 +161,7 @@ wrong <"$scratch/files" | sort -u >>"$scratch/wrong"
 known_cycles | sort >"$scratch/known"
 cycles | sort >"$scratch/cycles"
 comm -13 "$scratch/known" "$scratch/cycles" |
-    sed 's/^/a module that imports itself by way of others: /' >>"$scratch/wrong"
+    sed 's/^/a module that imports itself through others: /' >>"$scratch/wrong"
 comm -23 "$scratch/known" "$scratch/cycles" |
     sed 's/^/no longer in a cycle, and still in the list of tests\/layers.sh: /' >>"$scratch/wrong"
 

@@ -116,7 +116,7 @@ compare_constant() {
         pass
         summary+="javac: the program reads the constant of a class file"$'\n'
     else
-        wrong 'the program reads another constant of a class file, or none'
+        wrong 'the program reads the wrong constant of a class file, or none'
     fi
 }
 

@@ -20,7 +20,7 @@ fails_with_system() {
     "$2" "$scratch" >"$scratch/printed" 2>"$scratch/said" &&
         wrong "$1 takes a folder for an empty file"
     grep -q 'Is a directory' "$scratch/said" || wrong "$1 does not say that a read failed"
-    [[ ! -s $scratch/printed ]] || wrong "$1 prints something of a folder"
+    [[ ! -s $scratch/printed ]] || wrong "$1 prints something for a folder"
     "$2" "$3" >/dev/full 2>"$scratch/said" && wrong "$1 succeeds if a write fails"
     grep -qE 'No space left|output failed|I/O error' "$scratch/said" ||
         wrong "$1 does not say that a write failed"
@@ -46,10 +46,10 @@ in_class_file() {
     {
         printf '1 caf\303\251\n20 \n21 \0\360\237\222\226\n'
         printf '22 a\357\277\275\357\277\275\357\277\275\n'
-    } | cmp - "$scratch/printed" || wrong 'class_constants.c prints other constants'
+    } | cmp - "$scratch/printed" || wrong 'class_constants.c prints the wrong constants'
     # The last string is at offset 112, and the half pair begins after its first byte.
     diff <(echo "$scratch/constants.class: constant 22, offset 113: invalid input") "$scratch/said" ||
-        wrong 'class_constants.c does not tell a fault'
+        wrong 'class_constants.c does not report an error'
     in_damaged_class_files "$program"
     fails_with_system class_constants.c "$program" "$scratch/constants.class"
     echo 'class_constants.c was built and run'
@@ -73,10 +73,10 @@ in_damaged_class_files() {
         refuses_class "$1" "$file" 0 0
     done
     { printf '\312\376\272\276\0\0\0\101\0\2\1\377\377' && filled 65535 '\xFF'; } >"$file"
-    "$1" "$file" >"$scratch/printed" 2>"$scratch/said" || wrong 'class_constants.c refuses a damaged string'
+    "$1" "$file" >"$scratch/printed" 2>"$scratch/said" || wrong 'class_constants.c rejects a damaged string'
     marks=$(repeated 65535 '\xEF\xBF\xBD')
     diff <(echo "1 $marks") "$scratch/printed" >/dev/null ||
-        wrong 'class_constants.c prints a damaged string otherwise'
+        wrong 'class_constants.c prints a damaged string wrongly'
     unset MALLOC_PERTURB_
 }
 
@@ -85,9 +85,9 @@ in_damaged_class_files() {
 refuses_class() {
     "$1" "$2" >"$scratch/printed" 2>"$scratch/said"
     [[ $? == 1 && $(<"$scratch/said") == "$2: no class file, from offset $3 on" ]] ||
-        { cat "$scratch/said"; wrong "class_constants.c does not refuse a file at $3"; }
+        { cat "$scratch/said"; wrong "class_constants.c does not reject a file at $3"; }
     printf '1 caf\303\251\n20 \n21 \0\360\237\222\226\n' | head -n "$4" | cmp - "$scratch/printed" ||
-        wrong "class_constants.c prints other strings of a file that it refuses at $3"
+        wrong "class_constants.c prints the wrong strings of a file that it rejects at $3"
 }
 
 # Prints what cesu8_damage, the program in `teller`, prints for its input, and its status:
@@ -102,8 +102,8 @@ damage() {
 damage_fails() {
     local wanted=$1 line=$2
     shift 2
-    diff <(damage "$@" 2>"$scratch/said") <(echo "$wanted") || wrong "cesu8_damage ends otherwise for: $*"
-    diff "$scratch/said" <(echo "$line") || wrong "cesu8_damage says something else for: $*"
+    diff <(damage "$@" 2>"$scratch/said") <(echo "$wanted") || wrong "cesu8_damage has the wrong status or output for: $*"
+    diff "$scratch/said" <(echo "$line") || wrong "cesu8_damage prints the wrong message for: $*"
 }
 
 # Runs cesu8_damage on files without damage, with damage of each kind, and of more than one piece.
@@ -113,14 +113,14 @@ in_damaged_file() {
     local teller=$1 pairs=$scratch/pairs file=$scratch/damaged shown
     printf 'ab\n\377c\n\n\355\240\275d\300\200\0e\342\202' >"$file"
     diff <(damage cesu8 "$file") <(printf '%s\t%s\t%s\t%s\n' 3 2 1 ff 7 4 3 'ed a0 bd' 11 4 2 'c0 80' \
-        15 4 2 'e2 82' && echo 1) || wrong 'cesu8_damage finds other damage in CESU-8'
+        15 4 2 'e2 82' && echo 1) || wrong 'cesu8_damage finds the wrong damage in CESU-8'
     diff <(damage mutf8 <"$file") <(printf '%s\t%s\t%s\t%s\n' 3 2 1 ff 7 4 3 'ed a0 bd' 13 4 1 00 \
-        15 4 2 'e2 82' && echo 1) || wrong 'cesu8_damage finds other damage in MUTF-8'
+        15 4 2 'e2 82' && echo 1) || wrong 'cesu8_damage finds the wrong damage in MUTF-8'
     # The longest stretch that is shown as a whole has 16 bytes.
     shown=ff$(repeated 15 ' ff')
     diff <({ filled 16 '\xFF' && printf '\n' && filled 17 '\xFF'; } | damage cesu8) \
         <(printf '%s\t%s\t%s\t%s\n' 0 1 16 "$shown" 17 2 17 "$shown .." && echo 1) ||
-        wrong 'cesu8_damage shows stretches of 16 and 17 bytes otherwise'
+        wrong 'cesu8_damage prints stretches of 16 and 17 bytes wrongly'
     in_pieces
     { cat "$pairs" && filled 100000 '\xFF' && cat "$pairs"; } >"$file"
     diff <(damage mutf8 "$file") \
@@ -134,7 +134,7 @@ in_damaged_file() {
     damage_fails 4 'cesu8_damage: standard input: Bad file descriptor' cesu8 <&-
     "$teller" cesu8 "$file" >/dev/full 2>"$scratch/said"
     [[ $? == 4 && $(<"$scratch/said") == 'cesu8_damage: standard output: No space left on device' ]] ||
-        wrong 'cesu8_damage does not tell that it can not write'
+        wrong 'cesu8_damage does not report that it cannot write'
     stops_reading cesu8_damage 4 "$teller" cesu8 < <(yes $'\xFF' 2>/dev/null)
     # An emulator has memory of its own.
     if ((${#emulator[@]} == 0)); then
@@ -157,7 +157,7 @@ in_pieces() {
         wrong 'cesu8_damage finds damage where there is none'
     for front in '' a aa aaa aaaa aaaaa; do
         diff <({ printf '%s' "$front" && tail -c +3 "$pairs"; } | damage mutf8) <(echo 0) ||
-            wrong "cesu8_damage finds damage behind ${#front} letters"
+            wrong "cesu8_damage finds damage after ${#front} letters"
     done
     diff <(head -c -1 "$pairs" | damage cesu8; head -c 100000 "$pairs" | damage mutf8) \
         <(printf '179996\t2\t5\ted a0 bd ed b2\n1\n99998\t2\t2\ted a0\n1\n') ||
@@ -194,12 +194,12 @@ refuse_memory() {
             3)
                 told=1
                 diff <(echo "cesu8_damage: $1: Cannot allocate memory") "$scratch/said" ||
-                    wrong 'cesu8_damage says something else of memory'
+                    wrong 'cesu8_damage prints the wrong message about memory'
                 ;;
-            *) wrong "cesu8_damage ends with status $status where memory is refused" ;;
+            *) wrong "cesu8_damage ends with status $status if an allocation fails" ;;
         esac
     done
-    ((told)) || wrong 'cesu8_damage has no status for memory'
+    ((told)) || wrong 'cesu8_damage has no status for out of memory'
 }
 
 # Runs cesu8_damage on a file of 100 MB with little memory. It would exceed the time limit if it
@@ -211,7 +211,7 @@ limit_memory() {
     diff <(ulimit -v 8000 && damage cesu8 "$scratch/long") \
         <(printf '0\t1\t50000000\tff%s ..\n1\n' "$(repeated 15 ' ff')") ||
         wrong 'cesu8_damage does not find a stretch in a large file'
-    ((SECONDS - seconds < 60)) || wrong 'cesu8_damage takes long for a large file'
+    ((SECONDS - seconds < 60)) || wrong 'cesu8_damage takes too long for a large file'
     rm "$scratch/long"
 }
 
@@ -228,15 +228,15 @@ in_java_file() {
     } >"$strings"
     "$script" "$strings" >"$scratch/printed" || wrong 'java_strings.sh fails'
     printf 'caf\303\251\n\n\0\360\237\222\226\n%s\n\n\n\n' "$long" | cmp - "$scratch/printed" ||
-        wrong 'java_strings.sh prints other strings'
+        wrong 'java_strings.sh prints the wrong strings'
     "$script" /dev/stdin < <(cat "$strings") 2>&1 | cmp - "$scratch/printed" ||
-        wrong 'java_strings.sh prints other strings of a pipe'
+        wrong 'java_strings.sh prints the wrong strings from a pipe'
     for damage in '\0' '\0\4abc' '\0\1\377'; do
         { cat "$strings"; printf '%b' "${damage//\\/\\0}"; } >"$scratch/damaged"
         "$script" "$scratch/damaged" >"$scratch/seen" 2>"$scratch/said"
-        [[ $? == 1 && -s $scratch/said ]] || wrong "java_strings.sh takes $damage"
+        [[ $? == 1 && -s $scratch/said ]] || wrong "java_strings.sh accepts $damage"
         cmp "$scratch/printed" "$scratch/seen" ||
-            wrong "java_strings.sh prints other strings before $damage"
+            wrong "java_strings.sh prints the wrong strings before $damage"
     done
     fails_with_system java_strings.sh "$script" "$strings"
     # For an empty string, only the line end is written.
@@ -261,7 +261,7 @@ in_java_units() {
     } >"$strings"
     diff <("$program" "$strings"; echo $?) \
         <(printf '%s\n' '0061 D83D' '' 'DC96 00E9 0000' 'D83D DC96' 'DC96 D83D' 'D83D D83D DC96 20AC' 0) ||
-        wrong 'java_units.c prints other code units'
+        wrong 'java_units.c prints the wrong code units'
     refuses_units '\0' 'input is truncated'
     refuses_units '\0\4abc' 'input is truncated'
     for damage in '\0\1\377' '\0\3a\355\240' '\0\1\0' '\0\2\301\201' '\0\3\340\201\201' \
@@ -274,10 +274,10 @@ in_java_units() {
     mkdir "$scratch/jdk" || exit 2
     count=$(cd "$scratch/jdk" && java "$top/tests/peers/Constants.java" 2>"$scratch/said") ||
         { cat "$scratch/said"; echo 'java runs no source: java_units.c with the strings of a JDK skipped'; return; }
-    ((${count% *} > 100000)) || wrong "the JDK has few strings: $count"
+    ((${count% *} > 100000)) || wrong "the JDK has too few strings: $count"
     "$program" "$scratch/jdk/strings" | cmp - "$scratch/jdk/units" ||
-        wrong 'java_units.c reads the strings of the JDK otherwise'
-    echo "java_units.c read the ${count% *} strings of the JDK, ${count#* } with a surrogate alone"
+        wrong 'java_units.c reads the strings of the JDK wrongly'
+    echo "java_units.c read the ${count% *} strings of the JDK, ${count#* } with an unpaired surrogate"
     rm -r "$scratch/jdk"
 }
 
@@ -286,6 +286,6 @@ in_java_units() {
 refuses_units() {
     { cat "$scratch/strings_of_units"; printf '%b' "${1//\\/\\0}"; } >"$scratch/damaged"
     "$scratch/java_units" "$scratch/damaged" >"$scratch/printed" 2>"$scratch/said"
-    [[ $? == 1 && $(<"$scratch/said") == "$scratch/damaged: $2" ]] || wrong "java_units.c takes $1"
-    (($(wc -l <"$scratch/printed") == 6)) || wrong "java_units.c prints other strings before $1"
+    [[ $? == 1 && $(<"$scratch/said") == "$scratch/damaged: $2" ]] || wrong "java_units.c accepts $1"
+    (($(wc -l <"$scratch/printed") == 6)) || wrong "java_units.c prints the wrong strings before $1"
 }

@@ -25,7 +25,7 @@ expect() {
 
 version=$(<VERSION)
 if [[ ! $version =~ ^([1-9][0-9]?)\.(0|[1-9][0-9]?)\.(0|[1-9][0-9]?)$ ]]; then
-    echo "wrong: VERSION has '$version', which is no version of three numbers below 100"
+    echo "wrong: VERSION has '$version', which is not three numbers below 100"
     exit 1
 fi
 number=$((10000 * BASH_REMATCH[1] + 100 * BASH_REMATCH[2] + BASH_REMATCH[3]))
@@ -53,7 +53,7 @@ nodes=$(sed -n 's/^CESU8_\([0-9.]*\) {$/\1/p' "$package/cesu8.map")
 expect "$package/cesu8.map" 'first node' "$major.0" "${nodes%%$'\n'*}"
 expect "$package/cesu8.map" 'newest node' "$minor" \
     "$(printf '%s\n' "$minor" "$nodes" | sort -V | tail -n 1)"
-expect "$package/cesu8.map" 'first number of nodes' "$major" "$(cut -d . -f 1 <<<"$nodes" | sort -u)"
+expect "$package/cesu8.map" 'major number of nodes' "$major" "$(cut -d . -f 1 <<<"$nodes" | sort -u)"
 
 while IFS=: read -r page named; do
     grep -qxF "${named#CESU8_}" <<<"$nodes" && continue
@@ -72,7 +72,7 @@ place cesu8-config-version.cmake 'set(PACKAGE_VERSION @VERSION@)'
 place README.md '# cesu8 @VERSION@'
 place cesu8_cli.1 '.TH CESU8_CLI 1 @DATE@ "cesu8 @VERSION@" "User Commands"'
 if grep -rnE '(^|[^0-9.])[0-9]+\.[0-9]+\.[0-9]+' "$package"; then
-    echo 'wrong: these name a version, and dist.sh gives it'
+    echo 'wrong: these name a version, which dist.sh should fill in'
     wrong=1
 fi
 

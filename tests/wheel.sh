@@ -29,7 +29,7 @@ look_at_wheel() {
     quietly python3 -m zipfile -e "$wheel" "$site" || exit 1
     needed=$(objdump -T "$site/cesu8/_native.abi3.so" | grep -o 'GLIBC_[0-9.]*' | sort -V | tail -n 1)
     look_at_tag "$wheel" "$site" "${needed#GLIBC_}"
-    python3 - "$wheel" "${needed#GLIBC_}" "$seconds" <<'PYTHON' || wrong "${wheel##*/} holds something else"
+    python3 - "$wheel" "${needed#GLIBC_}" "$seconds" <<'PYTHON' || wrong "${wheel##*/} has the wrong contents"
 import base64
 import csv
 import hashlib
@@ -68,7 +68,7 @@ PYTHON
         cp -R "$unpacked" "$3/moved" &&
             SOURCE_DATE_EPOCH=$seconds quietly python3 "$top/python/wheel.py" "$3/moved" "$again"
     ) || wrong 'wheel.py fails'
-    cmp "$wheel" "$again/${wheel##*/}" || wrong 'wheel.py writes other bytes in a second run'
+    cmp "$wheel" "$again/${wheel##*/}" || wrong 'wheel.py writes different bytes in a second run'
 }
 
 # Tests that the name of a wheel promises manylinux_2_17 exactly when it is for aarch64 and needs no
@@ -81,7 +81,7 @@ look_at_tag() {
         printf '%s\n' "$3" 2.17 | sort -CV || platform=linux_aarch64
     fi
     [[ $tag == "cp310-abi3-$platform.whl" ]] || wrong "${1##*/} needs the C library $3"
-    grep -qx "Tag: ${tag%.whl}" "$2"/cesu8-*.dist-info/WHEEL || wrong "${1##*/} has another tag within"
+    grep -qx "Tag: ${tag%.whl}" "$2"/cesu8-*.dist-info/WHEEL || wrong "${1##*/} has the wrong tag inside"
     objdump -p "$2/cesu8/_native.abi3.so" | grep NEEDED | grep -vw libc.so.6 &&
         wrong "the module of ${1##*/} needs more than the C library"
 }
@@ -101,13 +101,13 @@ functions_of() {
 # `look_at_module MODULE [LEVEL]`.
 look_at_module() {
     diff <(echo 'T PyInit__native') <(nm -D --defined-only "$1" | cut -d ' ' -f 2-) ||
-        wrong "$1 shows other names"
+        wrong "$1 exports the wrong names"
     functions_of "$1" >"$scratch/functions"
-    (($(wc -l <"$scratch/functions") > 15)) || wrong "$1 has few functions"
+    (($(wc -l <"$scratch/functions") > 15)) || wrong "$1 has too few functions"
     # The compiler's runtime adds two, which detect the processor's features.
     grep -v '[02468ace]0$' "$scratch/functions" >"$scratch/misplaced"
     (($(wc -l <"$scratch/misplaced") < 4)) ||
-        wrong "functions of $1 begin elsewhere than at multiples of 32 bytes: $(xargs <"$scratch/misplaced")"
+        wrong "functions of $1 do not begin at multiples of 32 bytes: $(xargs <"$scratch/misplaced")"
     [[ -z ${2-} ]] || readelf -nW "$1" | grep -q "x86 ISA needed: $2\$" ||
         wrong "$1 is not marked as $2"
 }
@@ -273,7 +273,7 @@ if can_build 'the module under valgrind' valgrind --version; then
         { block = block $0 "\n" }
         /_native/ { printf "%s", block; block = ""; found = 1 }
         END { exit found }
-    ' "$scratch/valgrind" || wrong 'valgrind finds errors of the module'
+    ' "$scratch/valgrind" || wrong 'valgrind finds errors in the module'
 fi
 test_sanitized
 test_on_aarch64
