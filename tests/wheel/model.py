@@ -1,8 +1,8 @@
-"""A plain encoder and decoder, from the words of the standards, to compare the package with.
+"""A plain encoder and decoder, written from the text of the standards, to compare the package with.
 
-Unicode Technical Report 26 encodes each UTF-16 code unit by itself, and Java's DataInput does so
-too, but for U+0000. The decoder asks at each place whether the encoding of a scalar value stands
-there, and takes one byte as damage where none does.
+Unicode Technical Report 26 encodes each UTF-16 code unit by itself. So does Java's DataInput,
+except for U+0000. At each offset, the decoder tests whether the encoding of a scalar value begins
+there. If none does, it counts one byte as damaged.
 """
 
 from __future__ import annotations
@@ -42,7 +42,7 @@ def encoded(text: str, encoding: str) -> bytes:
 
 
 def candidates(data: bytes, place: int) -> list[int]:
-    """The numbers that one, two, three and six bytes can stand for, by their lower bits."""
+    """The scalar values that one, two, three and six bytes can encode, from their lower bits."""
     bits = [byte % 0x40 for byte in data[place : place + 6]]
     found = [data[place]]
     if len(bits) >= 2:
@@ -65,8 +65,7 @@ def character_at(data: bytes, place: int, encoding: str) -> str | None:
 
 @functools.lru_cache(maxsize=None)
 def parts(data: bytes, encoding: str) -> tuple[tuple[str | None, int], ...]:
-    """What stands in the bytes, in turn, with its place: a character, or None for a damaged
-    byte."""
+    """The parts of the bytes, each with its offset: a character, or None for a damaged byte."""
     found = []
     place = 0
     while place < len(data):
@@ -81,7 +80,7 @@ def lossy(data: bytes, encoding: str) -> str:
 
 
 def damaged(data: bytes, encoding: str) -> list[int]:
-    """The places of all damaged bytes."""
+    """The offsets of all damaged bytes."""
     return [place for character, place in parts(data, encoding) if character is None]
 
 
@@ -89,13 +88,13 @@ SURROGATES = {bytes(unit_bytes(unit, "cesu-8")): chr(unit) for unit in range(0xD
 
 
 def surrogate_at(data: bytes, place: int) -> str | None:
-    """The surrogate that stands there as a character of three bytes."""
+    """The surrogate that is encoded there as a character of three bytes."""
     return SURROGATES.get(data[place : place + 3])
 
 
 def replaced(data: bytes, place: int, errors: str) -> tuple[str, int] | None:
-    """What one of Python's handlers gives for a damaged byte, and for how many bytes; or None where
-    it raises."""
+    """What one of Python's handlers returns for a damaged byte, and how many bytes it replaces, or
+    None if it raises an error."""
     byte = data[place]
     if errors == "surrogatepass":
         surrogate = surrogate_at(data, place)
@@ -107,7 +106,7 @@ def replaced(data: bytes, place: int, errors: str) -> tuple[str, int] | None:
 
 
 def decoded(data: bytes, encoding: str, errors: str) -> str | int:
-    """The text by one of Python's handlers, or the place of the byte that is refused."""
+    """The text with one of Python's handlers, or the offset of the byte that is rejected."""
     text = ""
     behind = 0
     for character, place in parts(data, encoding):
@@ -124,7 +123,7 @@ def decoded(data: bytes, encoding: str, errors: str) -> str | int:
 
 
 def encoded_by(text: str, encoding: str, errors: str) -> bytes:
-    """The encoding of a text with surrogates, for which a handler of Python's speaks to UTF-8."""
+    """The encoding of a string in which UTF-8 with one of Python's handlers encodes surrogates."""
     return b"".join(
         character.encode("utf-8", errors)
         if "\ud800" <= character <= "\udfff"
@@ -134,8 +133,8 @@ def encoded_by(text: str, encoding: str, errors: str) -> bytes:
 
 
 def fronts(encoding: str) -> set[bytes]:
-    """The encoded characters without their last byte, or more."""
-    # The last byte of two and more has 64 values in turn, so each 64th character has all fronts.
+    """The proper prefixes of encoded characters."""
+    # The last byte takes 64 values in turn, so every 64th character has all prefixes.
     found = set()
     for scalar in range(0, 0x110000, 64):
         if not 0xD800 <= scalar < 0xE000:

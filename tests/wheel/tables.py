@@ -4,7 +4,8 @@ from __future__ import annotations
 
 R = "\ufffd"
 
-# A scalar value, its UTF-8, its CESU-8 and its MUTF-8, at the borders of the forms.
+# A scalar value, its UTF-8, its CESU-8 and its MUTF-8: the first and last of each length, and
+# some between.
 BORDERS = [
     (0x0000, "00", "00", "C0 80"),
     (0x0001, "01", "01", "01"),
@@ -41,7 +42,7 @@ PAIR = "ED A0 BD ED B2 96"
 
 # Damaged bytes, and their lossy reading as CESU-8 and as MUTF-8.
 DAMAGE = [
-    # One byte of a surrogate pair is changed.
+    # A surrogate pair with one byte changed.
     ("EC A0 BD ED B2 96", "\uc83d" + 3 * R, "\uc83d" + 3 * R),
     ("ED 9F BD ED B2 96", "\ud7fd" + 3 * R, "\ud7fd" + 3 * R),
     ("ED B0 BD ED B2 96", 6 * R, 6 * R),
@@ -51,14 +52,14 @@ DAMAGE = [
     ("ED A0 BD ED 9F 96", 3 * R + "\ud7d6", 3 * R + "\ud7d6"),
     ("ED A0 BD ED B2 41", 5 * R + "A", 5 * R + "A"),
     ("ED A0 BD ED B2 C0", 6 * R, 6 * R),
-    # Surrogates without a partner, one of them before a pair.
+    # Unpaired surrogates, one of them before a pair.
     ("ED A0 BD ED A0 BD ED B2 96", 3 * R + "\U0001f496", 3 * R + "\U0001f496"),
     ("ED B2 96 ED A0 BD", 6 * R, 6 * R),
     # UTF-8 with four bytes.
     ("F0 9F 92 96", 4 * R, 4 * R),
     ("F0 9F 92 96 ED A0 BD ED B2 96", 4 * R + "\U0001f496", 4 * R + "\U0001f496"),
     ("FF F0 9F 92 96", 5 * R, 5 * R),
-    # Single bytes, overlong forms, and characters that are cut.
+    # Single bytes, overlong forms, and characters that are cut off.
     ("80", R, R),
     ("C0 41", R + "A", R + "A"),
     ("C1 BF", 2 * R, 2 * R),
@@ -72,15 +73,15 @@ DAMAGE = [
     ("E2 82 E2 82 AC", 2 * R + "\u20ac", 2 * R + "\u20ac"),
     ("F8", R, R),
     ("FF 41 FF", R + "A" + R, R + "A" + R),
-    # U+0000: the text is whole in one of the encodings.
+    # U+0000: the bytes are valid in one of the encodings.
     ("C0 80", 2 * R, "\0"),
     ("C0 C0 80", 3 * R, R + "\0"),
     ("00 00 00", "\0\0\0", 3 * R),
     ("41 00 42", "A\0B", "A" + R + "B"),
 ]
 
-# Bytes, and what the lenient calls read in them as CESU-8 and as MUTF-8: strictly, where None is
-# damage, and lossily.
+# Bytes, and what the lenient calls return for them. For CESU-8 and then for MUTF-8 there are two
+# results: that of the call that reports damage, which is None for damaged bytes, and the lossy one.
 LENIENT = [
     (PAIR, "\U0001f496", "\U0001f496", "\U0001f496", "\U0001f496"),
     ("F0 9F 92 96", "\U0001f496", "\U0001f496", "\U0001f496", "\U0001f496"),
@@ -94,7 +95,7 @@ LENIENT = [
     ("C0 C0 80", None, 3 * R, None, R + "\0"),
 ]
 
-# Two texts, and how the first compares with the second by UTF-16 code units.
+# Two strings, and how the first compares with the second by UTF-16 code units.
 ORDER = [
     ("\uffff", "\U00010000", 1),
     ("\ue000", "\U0010ffff", 1),
@@ -103,7 +104,7 @@ ORDER = [
     ("A", "A", 0),
 ]
 
-# Texts, and what writeUTF writes of them.
+# Strings, and what writeUTF writes for them.
 JAVA = [
     ("", "00 00"),
     ("a\0", "00 03 61 C0 80"),

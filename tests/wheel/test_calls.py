@@ -77,7 +77,7 @@ class Tables(unittest.TestCase):
                 if cesu8.decode(data, encoding, "replace") != reading:
                     self.fail(f"{encoding} of {data.hex()} is {reading!r}")
                 accepted[encoding] += self.assert_strict(data, encoding)
-        # 128 or 127 of one byte, twice, 30 * 64 of two bytes, and the two bytes of U+0000.
+        # Pairs of 128 or 127 single bytes, 30 * 64 characters of two bytes, and C0 80.
         self.assertEqual(accepted, {"cesu-8": 18304, "mutf-8": 18050})
 
     def test_all_scalar_values(self) -> None:
@@ -204,7 +204,7 @@ class JavaStrings(unittest.TestCase):
             ("00 03 ED A0 BD", 2),
             ("00 04 F0 9F 92 96", 2),
             ("00 04 41 C0 80 FF 80", 5),
-            # What follows the string makes no character with its end.
+            # The bytes after the string complete no character at its end.
             ("00 03 ED A0 BD ED B2 96", 2),
             ("00 01 C0 80", 2),
         ):
@@ -223,7 +223,7 @@ class JavaStrings(unittest.TestCase):
         self.assertEqual(cesu8.read_utf(b"x" + data, 1, "backslashreplace")[1], 6)
 
     def test_long_strings(self) -> None:
-        """Results of more bytes than few, in a row, of which each reading gives something else."""
+        """Long strings, one after another. Each error handler has another result for them."""
         damaged = 100 * bytes.fromhex("41 C0 80 FF C2 A2")
         utf8 = 150 * bytes.fromhex("41 F0 9F 92 96")
         pairs = 120 * bytes.fromhex(tables.PAIR + "C0 80")
@@ -240,11 +240,11 @@ class JavaStrings(unittest.TestCase):
                 self.assertEqual(place, len(data))
 
     def test_handlers_stay_in_the_string(self) -> None:
-        """A character that the string cuts is cut, though the data goes on with its last byte."""
+        """A character cut off by the end of the string is damage, even if its last byte follows."""
         string = bytes.fromhex("00 04 41 FF E2 82")
         for front, kind in itertools.product((b"", b"front"), (bytes, bytearray)):
             row = kind(front + string + b"\xacrest")
-            # In bytes a place is of the data, and else of the string.
+            # For bytes, offsets count from the start of the data, and otherwise from the string.
             first = len(front) + 2 if kind is bytes else 0
             asked = []
             answers = [first + 2, -1, first + 4]
@@ -258,11 +258,11 @@ class JavaStrings(unittest.TestCase):
             self.assertEqual(found, ("A!!!", len(front) + 6))
             reasons = ["invalid start byte", "unexpected end of data", "invalid start byte"]
             self.assertEqual(asked, list(enumerate(reasons, 1)))
-            # Every place before the string, and one behind it. From its end the first is at -4.
+            # Every offset before the string, and one after it. Its first byte is also at -4.
             for place in (*range(first), first + 5, -5, -20):
                 asked.clear()
                 answers = [place]
-                # The handler itself raises another one if it is asked again.
+                # If it is called again, the handler itself raises another error.
                 with self.assertRaisesRegex(IndexError, "position -?[0-9]+ from error handler"):
                     cesu8.read_utf(row, len(front), "cesu8.own")
 

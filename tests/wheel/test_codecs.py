@@ -1,4 +1,4 @@
-"""The codecs by Python's own calls, with every error handler."""
+"""The codecs through Python's own calls, with every error handler."""
 
 from __future__ import annotations
 
@@ -13,7 +13,7 @@ HANDLERS = ("strict", "ignore", "replace", "backslashreplace", "surrogateescape"
 ENCODE_HANDLERS = (*HANDLERS, "xmlcharrefreplace", "namereplace")
 
 
-# In what `surrogatepass` takes as a whole, as far as the pairs are one character, and in what not.
+# Bytes that `surrogatepass` accepts, with pairs as one character, and bytes that it rejects.
 SURROGATES = (
     "ED A0 80",
     "ED BF BF",
@@ -33,7 +33,7 @@ SURROGATES = (
 
 
 class Place:
-    """An integer that is no `int`, as NumPy's are none."""
+    """An integer that is not an `int`, like those of NumPy."""
 
     def __init__(self, place: int) -> None:
         self.place = place
@@ -70,7 +70,7 @@ class Decoding(unittest.TestCase):
         rows += [b"a" * count + row for count in (4090, 4095, 4096, 4097) for row in rows[:12]]
         # A zero byte, which is damage in MUTF-8 alone, among other damage.
         rows += [b"\xff\0\xff\xed\0a", 600 * b"\xff" + b"\0" + 600 * b"\xff"]
-        # Surrogates without a partner, beside pairs and cut.
+        # Unpaired surrogates, next to pairs and cut off.
         rows += [bytes.fromhex(row) for row in SURROGATES]
         for encoding in model.ENCODINGS:
             for errors in HANDLERS:
@@ -82,7 +82,7 @@ class Decoding(unittest.TestCase):
         for encoding in model.ENCODINGS:
             for number in range(0x10000):
                 data = number.to_bytes(2, "big")
-                # The handler's answers come one by one, those of 'replace' from the library.
+                # This handler is called for each damaged byte. The library handles 'replace'.
                 found = data.decode(encoding, "cesu8.one_mark")
                 if found != model.lossy(data, encoding):
                     self.fail(f"{encoding} of {data.hex()} is {found!r}")
@@ -174,7 +174,7 @@ class Decoding(unittest.TestCase):
                 self.assertIsInstance(caught.exception, wanted)
 
     def test_what_is_said_of_wrong_answers(self) -> None:
-        """What Python's own codecs say, without what they put around it."""
+        """The messages are those of Python's own codecs, without the text around them."""
         for answer, said in (
             (("!", 7), "position 7 from error handler out of bounds"),
             (("!", -7), "position -1 from error handler out of bounds"),
@@ -196,7 +196,7 @@ class Decoding(unittest.TestCase):
             self.assertEqual(str(caught.exception), said)
 
     def test_handlers_registered_anew(self) -> None:
-        """Decoding does not call them if they have the name of one of Python's own."""
+        """Decoding does not call a handler that has the name of one of Python's own."""
         data = b"A\xff\xed\xa0\x80B"
         for errors in HANDLERS:
             wanted = model.decoded(data, "mutf-8", errors)
@@ -221,7 +221,7 @@ class Decoding(unittest.TestCase):
             self.assertEqual(found, ("A!mended", 3))
 
     def test_handler_with_other_damaged_input(self) -> None:
-        """Damage is searched for anew in other input, where the old one had a run of it."""
+        """If a handler replaces the input, damage is searched for again, even after a run of it."""
 
         def mend(error: UnicodeError) -> tuple[str, int]:
             if len(error.object) == 9:
@@ -260,8 +260,8 @@ class Decoding(unittest.TestCase):
 
 
 class Encoding(unittest.TestCase):
-    """Surrogates are refused and handled as by Python's UTF-8, which encodes the rest of these
-    texts alike."""
+    """Surrogates are rejected and handled as by Python's UTF-8, which encodes the rest of these
+    strings in the same way."""
 
     TEXTS = (
         "\ud800",

@@ -1,5 +1,5 @@
-"""What becomes of the caller's own data: that one copy is taken of no more than a call reads, and
-that nobody is kept from changing it meanwhile."""
+"""The caller's own data: a call copies it once, and no more than it reads, and other threads may
+change it meanwhile."""
 
 from __future__ import annotations
 
@@ -23,7 +23,7 @@ STRING = b"\0\x04a\xffb\xed"
 
 
 def by_threads(change: Callable[[], None], call: Callable[[], None], seconds: float) -> None:
-    """Calls in a second thread until some seconds are over, while this one changes things."""
+    """Makes calls in a second thread for some seconds, while this thread changes the data."""
     interval = sys.getswitchinterval()
     is_over = threading.Event()
     failures = []
@@ -55,7 +55,7 @@ def by_threads(change: Callable[[], None], call: Callable[[], None], seconds: fl
 
 class Copies(unittest.TestCase):
     def test_a_string_that_gets_shorter(self) -> None:
-        """`read_utf` ends, whatever becomes of the data."""
+        """`read_utf` returns, however the data changes."""
         program = """if True:
             import cesu8
             for errors in ("ignore", "surrogateescape", "backslashreplace", "strict"):
@@ -129,7 +129,7 @@ class Copies(unittest.TestCase):
 
     @staticmethod
     def peak(call: Callable[..., None], *arguments: object) -> int:
-        """How many bytes a call has at the same time."""
+        """The most memory that a call uses at one time, in bytes."""
         call(*arguments)
         tracemalloc.start()
         try:
@@ -139,7 +139,7 @@ class Copies(unittest.TestCase):
             tracemalloc.stop()
 
     def test_places_in_a_string_of_other_data(self) -> None:
-        """An error has the string alone, with the place in it."""
+        """An error has only the string, and the offset in it."""
         for start in (0, 7):
             data = bytearray(start * b"-" + STRING + b"rest")
             with self.assertRaises(UnicodeDecodeError) as caught:
@@ -230,7 +230,7 @@ class Copies(unittest.TestCase):
 
 class Threads(unittest.TestCase):
     def test_a_bytearray_may_grow_while_it_is_decoded(self) -> None:
-        """As with Python's own encodings."""
+        """It may with Python's own encodings too."""
         long = bytearray(70_000 * b"a" + b"\xc0\x80")
         damaged = bytearray(70_000 * b"a" + b"\xff\xed\xa0\x80")
         string = bytearray(b"\xf0\0" + 0xF000 * b"a")

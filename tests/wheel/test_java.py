@@ -1,4 +1,4 @@
-"""What Java tells, which tests/wheel/Strings.java has written to the folder JAVA_STRINGS."""
+"""Java's own results, which tests/wheel/Strings.java writes to the folder JAVA_STRINGS."""
 
 from __future__ import annotations
 
@@ -36,7 +36,7 @@ class Java(unittest.TestCase):
         texts = [chr(value) for value in range(0, 0x110000, 0x1800)]
         for text in texts:
             for other in texts:
-                # Java's strings may hold a surrogate alone, which is in no text.
+                # Java's strings may have unpaired surrogates, which cesu8 rejects.
                 compared = next(order) - 1
                 if not ("\ud800" <= text <= "\udfff" or "\ud800" <= other <= "\udfff"):
                     self.assertEqual(cesu8.compare_as_utf16(text, other), compared)

@@ -1,4 +1,4 @@
-"""The module in C by itself: what it refuses, and that it keeps no object that it made."""
+"""The C module by itself: what it rejects, and that it leaks no object."""
 
 from __future__ import annotations
 
@@ -13,7 +13,7 @@ import model
 import tables
 from cesu8 import _native
 
-# Results of a few bytes and of many go other ways.
+# Short and long results are made by different code.
 COUNTS = (0, 1, 100, 4000)
 TEXTS = [count * text for count in COUNTS for text in ("a", "\xe4", "\u20ac", tables.PATTERN[0])]
 
@@ -35,7 +35,7 @@ CALLS = [
     (_native.write_utf, {"text": "a", "errors": "strict"}, 1),
     (_native.read_utf, {"data": b"\0\x01a", "start": 0, "errors": "strict"}, 1),
     *((encode, {"input": "a", "errors": "strict"}, 1) for encode, _ in CODECS),
-    # Of a view alone the text is found another way.
+    # A memoryview without a handler is decoded by different code.
     *(
         (decode, {"input": data, "errors": "strict", "final": True}, 1)
         for _, decode in CODECS
@@ -86,7 +86,7 @@ class Arguments(unittest.TestCase):
                     call(**{**arguments, name: arguments[name] + "\0"})
 
     def test_what_is_said(self) -> None:
-        """The name or the numbers that are refused are named."""
+        """The message has the name or the numbers that are rejected."""
         for error, said, call, *arguments in (
             (LookupError, "cesu8 has no encoding 'utf-8'", _native.encode, "a", "utf-8"),
             (LookupError, "cesu8 has no encoding ''", _native.decode, b"a", ""),
@@ -115,7 +115,7 @@ class Arguments(unittest.TestCase):
 
 class Results(unittest.TestCase):
     def test_each_length(self) -> None:
-        """Around the lengths from which a result has memory of its own, and the lock is free."""
+        """Lengths near those from which a result is allocated, and the lock is released."""
         for length in (*range(500, 530), *range(65530, 65545)):
             for character in ("a", "\0", "\xe4", "\u20ac", "\ud55c", "\U0001f496"):
                 text = (length * character)[: length // len(character.encode()) + 1]
@@ -123,7 +123,7 @@ class Results(unittest.TestCase):
                     encoded = len(text) * model.encoded(character, encoding)
                     self.assertEqual(encode(text), (encoded, len(text)))
                     for data in (encoded, memoryview(encoded)):
-                        # A view alone goes another way than one with a handler.
+                        # A memoryview with a handler is decoded by different code than one without.
                         for handler in ((), ("strict",), ("replace",)):
                             self.assertEqual(decode(data, *handler), (text, len(encoded)))
 
@@ -151,7 +151,7 @@ class Results(unittest.TestCase):
             for row in (bytes.fromhex(row) for row, *_ in tables.DAMAGE):
                 places = model.damaged(row, encoding)
                 for fill, text in zip(fills, texts):
-                    # No character that the row cuts goes on behind it.
+                    # After the row comes a byte that completes no character.
                     data = b"\xff" + fill + row + b"a" + fill
                     place = 1 + len(fill) + places[0] if places else len(data)
                     rest = model.lossy(row[: places[0]] if places else row, encoding)
@@ -194,7 +194,7 @@ class Objects(unittest.TestCase):
                 string = _native.write_utf(text)
                 reversed_view = memoryview(string[::-1])[::-1]
                 column = memoryview(string).cast("B", [len(string), 1])
-                # Only items of more bytes that are not contiguous are copied as a whole.
+                # Only data with items of several bytes that are not contiguous is copied whole.
                 items = (string[at : at + 2].ljust(2) + b"--" for at in range(0, len(string), 2))
                 spread = memoryview(b"".join(items)).cast("H")[::2]
                 for data in (string, bytearray(string), reversed_view, column, spread):
@@ -233,7 +233,7 @@ class Objects(unittest.TestCase):
                 call(*arguments)
 
     def assert_keeps_nothing(self, call: Callable[[], None]) -> None:
-        """In the first calls Python itself keeps something, so the best of some rounds counts."""
+        """Python itself keeps memory in the first calls, so the best of several rounds counts."""
         tracemalloc.start()
         self.addCleanup(tracemalloc.stop)
         best = [sys.maxsize] * len(self.kept())
@@ -250,7 +250,7 @@ class Objects(unittest.TestCase):
     @staticmethod
     def kept() -> list[int]:
         gc.collect()
-        # From 3.12 on Python does not count references to what it has for ever, as to a letter.
+        # From 3.12 on, Python does not count references to immortal objects, such as a letter.
         values = [text for text in TEXTS if len(text) > 99]
         references = [sys.getrefcount(value) for value in (*values, DATA)]
         return [*references, tracemalloc.get_traced_memory()[0]]

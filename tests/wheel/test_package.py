@@ -68,12 +68,12 @@ class Package(unittest.TestCase):
         self.assertEqual(doctest.DocTestRunner().run(test).failed, 0)
 
     def test_names(self) -> None:
-        """Those that the page has a row for, and the type of what the calls read."""
+        """The names are those of the page's table, and the type of the calls' data."""
         calls = ["compare_as_utf16", "decode", "decoded_len", "encode", "read_utf", "utf16_len"]
         self.assertEqual(sorted(cesu8.__all__), ["Data", *calls, "write_utf"])
         self.assertEqual(dir(cesu8), sorted(cesu8.__all__))
         for call in (*calls, "write_utf"):
-            # No frame in Python stands between.
+            # The functions are built in, so a call adds no Python frame.
             self.assertIs(type(getattr(cesu8, call)), type(len))
             self.assertTrue(inspect.signature(getattr(cesu8, call)).parameters)
         for encoding in ("cesu-8", "mutf-8"):
@@ -99,7 +99,7 @@ class Package(unittest.TestCase):
         self.assertEqual(found.stdout.count("error: "), len(wrong), found.stdout)
 
     def test_interpreters(self) -> None:
-        """An interpreter with a lock of its own, which Python has from 3.12 on."""
+        """An interpreter with its own lock, which exists from Python 3.12 on."""
         try:
             interpreters = importlib.import_module("_interpreters")
         except ImportError:

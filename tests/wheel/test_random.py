@@ -1,5 +1,5 @@
-"""Cases at random beside the plain model, with Python's handlers and one of a user's own. CASES says
-how many, and SEED which: without it they are the same each time."""
+"""Random cases, compared with the plain model, with Python's handlers and one of a user's own.
+CASES is their number, and SEED the seed: without it they are the same each time."""
 
 from __future__ import annotations
 
@@ -15,7 +15,7 @@ from test_codecs import ENCODE_HANDLERS, HANDLERS
 CASES = int(os.environ.get("CASES", "1000"))
 SEED = os.environ.get("SEED", "1")
 
-# Fragments of characters, and whole ones, as each encoding and UTF-8 have them.
+# Whole characters, in each encoding and in UTF-8, and fragments of characters.
 WHOLE = ["a", "\0", "\x7f", "\xe4", "\u07ff", "\u20ac", "\ud55c", "\uffff"]
 WHOLE += ["\U0001f496", "\U0010ffff"]
 PIECES = [character.encode() for character in WHOLE]
@@ -26,14 +26,14 @@ UNITS = ["\ud800", "\ud83d", "\udbff", "\udc00", "\udc80", "\udcff", "\udfff"]
 
 
 def jump(error: UnicodeError) -> tuple[str, int]:
-    """A handler that goes over some bytes or units, by what stands there."""
+    """A handler that skips one to three bytes or code units, depending on the first of them."""
     start, whole = error.start, error.object
     step = 1 + (whole[start] if isinstance(whole, bytes) else ord(whole[start])) % 3
     return f"<{start}>", min(start + step, len(whole))
 
 
 def jumped(data: bytes, encoding: str) -> str:
-    """The text by that handler."""
+    """The text with the handler `jump`."""
     text, place = "", 0
     while place < len(data):
         character = model.character_at(data, place, encoding)
@@ -84,7 +84,7 @@ class Random(unittest.TestCase):
         return cesu8.decode(self.random.choice((data, memoryview(data))), encoding, errors)
 
     def by_string(self, data: bytes, encoding: str, errors: str) -> str:
-        """The data as a string among others. Places count from its begin in a bytearray."""
+        """The data as a string between others. In a bytearray, offsets count from its start."""
         if encoding == "cesu-8" or errors == "cesu8.jump":
             return self.by_call(data, encoding, errors)
         front = self.random.randbytes(self.random.randrange(4))
@@ -96,7 +96,7 @@ class Random(unittest.TestCase):
         return text
 
     def in_two(self, data: bytes, encoding: str, errors: str) -> str:
-        """In two pieces, where only places are others."""
+        """Decoded in two pieces, but only if no error is raised: its offset would differ."""
         if errors == "cesu8.jump" or isinstance(model.decoded(data, encoding, errors), int):
             return self.by_call(data, encoding, errors)
         decoder = codecs.getincrementaldecoder(encoding)(errors)

@@ -31,7 +31,7 @@ def splits(data: bytes) -> Iterator[list[bytes]]:
 
 
 def outcome(convert: object, *arguments: object) -> object:
-    """What a call returns, or how it refuses."""
+    """What a call returns, or the byte and the reason of its error."""
     try:
         return convert(*arguments)  # type: ignore[operator]
     except UnicodeDecodeError as error:
@@ -61,7 +61,7 @@ class Incremental(unittest.TestCase):
         return text + decoder.decode(b"", True)
 
     def test_what_is_kept(self) -> None:
-        """Only the front of a character is kept back, and all else is given at once."""
+        """Only an incomplete character is kept, and all else is returned at once."""
         for encoding in model.ENCODINGS:
             fronts = model.fronts(encoding)
             inputs = {number.to_bytes(2, "big") for number in range(0x10000)}
@@ -101,7 +101,7 @@ class Incremental(unittest.TestCase):
             self.assertEqual(encoder.encode("a\ud800"), b"a")
 
     def test_surrogates_in_pieces(self) -> None:
-        """With `surrogatepass` the front of each surrogate is kept, since it makes a character."""
+        """With `surrogatepass` an incomplete surrogate is kept, since it may become a character."""
         data = bytes.fromhex("ED B2 96 ED A0 BD ED B2 96 ED A0 BD 41 ED A0 BD")
         for encoding in model.ENCODINGS:
             wanted = "\udc96\U0001f496\ud83dA\ud83d"
@@ -202,7 +202,7 @@ class Streams(unittest.TestCase):
             self.assertEqual(codecs.getreader(encoding)(io.BytesIO(encoded)).read(), text)
             reader = codecs.getreader(encoding)(io.BytesIO(encoded))
             self.assertEqual("".join(iter(lambda: reader.read(1), "")), text)
-            # The lines of a stream reader end as str.splitlines has it.
+            # A stream reader splits lines as str.splitlines does.
             reader = codecs.getreader(encoding)(io.BytesIO(encoded))
             self.assertEqual(list(reader), text.splitlines(keepends=True))
 
