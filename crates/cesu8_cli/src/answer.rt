@@ -165,7 +165,7 @@ fn java_read(alloc: Global, input: &[u8]) -> Result<CowBytes<'_>, RunFault>
     Ok(into_bytes(text))
 }
 
-/// Returns a text's bytes, which are its UTF-8, without a copy.
+/// Returns the UTF-8 of decoded text, without a copy.
 fn into_bytes(text: CowText<'_>) -> CowBytes<'_>
     ensures { answer_bytes result ≡ utf8 (chars (answer_text text.entry)) }
 {

@@ -15,7 +15,7 @@ pub enum RunFault {
     Usage,
     /// The input of a command that takes UTF-8 is not UTF-8.
     NotUtf8,
-    /// No text has the input, or the Java string in it, as its encoding.
+    /// The input, or the Java string in it, decodes to no text.
     Invalid(DecodingError),
     /// The input ends before the Java string does.
     Truncated,

@@ -127,8 +127,8 @@ fn expect_order(alloc: Global, first: &str, second: &str) -> Result<(), Differen
     Ok(())
 }
 
-/// Each of the ends with each, after equal prefixes of up to 20 characters. Several bytes are
-/// compared at once, so the strings differ at each place of such a word.
+/// Each of the ends with each, after equal prefixes of up to 20 characters. The strings are
+/// compared several bytes at a time, and they differ at each offset of such a group.
 #[test]
 fn compares_behind_equal_fronts(rt: HostRuntime) -> Result<(), Fail> {
     let ends = [

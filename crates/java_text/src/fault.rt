@@ -63,7 +63,7 @@ impl Error for WriteFault {}
 pub enum ReadFault {
     /// There are fewer than two bytes, or fewer bytes after them than they count.
     Truncated,
-    /// No text has the counted bytes as its encoding.
+    /// The counted bytes decode to no text.
     Invalid(DecodingError),
     /// Memory could not be allocated.
     Memory,
@@ -148,7 +148,7 @@ impl Error for WriteSliceFault {}
 pub enum ReadSliceFault {
     /// There are fewer than two bytes, or fewer after them than they count.
     Truncated,
-    /// No text has the counted bytes as its encoding.
+    /// The counted bytes decode to no text.
     Invalid(DecodingError),
     /// The buffer is shorter than the text, whose UTF-8 has this many bytes.
     TooShort(usize),

@@ -10,7 +10,7 @@
 //! |---|---|---|
 //! | text | its form, appended to your `Vec` | [`write_utf`] |
 //! | bytes that begin with a form | its text and the bytes after it, or an error | [`read_utf`] |
-//! | the same, perhaps damaged | a text, unless bytes are missing | [`read_utf_lossy`] |
+//! | the same, perhaps damaged | text, unless bytes are missing | [`read_utf_lossy`] |
 //!
 //! Three calls write the form or the text to your buffer, without an allocator:
 //! [`write_utf_to_slice`], [`read_utf_to_slice`] and [`read_utf_lossy_to_slice`].

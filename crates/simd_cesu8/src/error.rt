@@ -9,7 +9,7 @@ use std::error::Error;
 use std::fmt;
 use std::fmt::{Debug, Display, Formatter};
 
-/// The input is the encoding of no text. The error has neither a position nor a reason.
+/// The input decodes to no text. The error has neither a position nor a reason.
 ///
 /// It displays as `invalid input`, and as `DecodingError` with `{:?}`, whatever width is given.
 ///
@@ -70,7 +70,7 @@ impl Error for DecodingError {}
 /// ```
 #[derive(Debug, Drop)]
 pub enum DecodeFault {
-    /// No text has the input as its encoding.
+    /// The input decodes to no text.
     Invalid(DecodingError),
     /// Memory could not be allocated.
     Memory(AllocError),
@@ -151,7 +151,7 @@ impl Error for TooShort {}
 /// ```
 #[derive(Clone, Copy, Debug, PartialEq, Eq)]
 pub enum DecodeSliceFault {
-    /// No text has the input as its encoding.
+    /// The input decodes to no text.
     Invalid(DecodingError),
     /// The buffer is shorter than the text.
     TooShort(TooShort),
