@@ -95,7 +95,7 @@ done
 for page in *.md docs/*.md python/*.md; do
     while read -r named; do
         expect "$page" wheel "$version" "$named"
-    done < <(grep -o 'cesu8-[0-9][0-9.]*-py3' "$page" | sed 's/^cesu8-//; s/-py3$//' | sort -u)
+    done < <(grep -oE 'cesu8-[0-9][0-9.]*-cp[0-9]' "$page" | sed 's/^cesu8-//; s/-cp[0-9]$//' | sort -u)
     while read -r named; do
         expect "$page" package "$version-1" "$named"
     done < <(grep -oE '(libcesu8-[a-z0-9]+|cesu8-tools)_[^_ ]+_amd64' "$page" |
