@@ -1,5 +1,5 @@
-//! Makes calls of `simd_cesu8` and `java_text`, so that `tests/memory.sh` can refuse them one request
-//! for memory. What a process requests can be refused only in a process of its own.
+//! Makes calls of `simd_cesu8`, `java_text` and `cesu8_stream`, so that `tests/memory.sh` can refuse
+//! them one request for memory. What a process requests can be refused only in a process of its own.
 //!
 //! Standard input is a line, and then the input of the calls. The line has the number of requests
 //! that the program makes first, and each call with its encoding. The program prints the result of
@@ -11,6 +11,7 @@ mod calls;
 mod faults;
 mod prints;
 mod slices;
+mod streams;
 
 use std::io;
 use std::io::{ErrorKind, Read};
