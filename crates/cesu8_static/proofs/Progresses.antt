@@ -1,11 +1,12 @@
 -- What C gets for how far a call came says what the call's own contract says.
-use Rattle.std.proofs.Common.{◌≡◌, ◌↔◌, ℕ, ◌<◌, List, Bool, refl, inl, inr, arith}
+use Rattle.std.proofs.Common.{◌≡◌, ◌↔◌, ℕ, ◌<◌, List, [], ◌∷◌, Bool, refl, inl, inr, arith}
 use Rattle.cesu8_stream.specs.Streams as stream
 use Rattle.cesu8_stream.specs.Lossy as stream_lossy
 use Rattle.cesu8_stream.specs.declared.progress.Progress as stream_progress
 use Rattle.cesu8_stream.specs.declared.progress.State.{State}
 use Rattle.cesu8_stream.specs.declared.progress.State.TheVariants.{InputEmpty, Incomplete, OutputFull, Malformed}
 use Rattle.cesu8_static.specs.declared.answer.TheConstants.{OK, INCOMPLETE, FULL}
+use Rattle.cesu8_static.specs.Answers.{IsAmong}
 use Rattle.cesu8_static.specs.Pieces.{status_of, told_of_progress, ConvertsPiece, DecodesPiece}
 
 -- Each state has a status of its own, if that for malformed bytes is none of the others.
@@ -58,7 +59,7 @@ converts_told from to widest malformed bytes progress old new some few piece = r
   moves = (λ wide s. piece.progress wide ((told_full malformed progress.state some few).0 s));
 }
   where
-    among : (state : State) → _
+    among : (state : State) → IsAmong (OK ∷ INCOMPLETE ∷ FULL ∷ malformed ∷ []) (status_of malformed state)
     among InputEmpty = inl refl
     among Incomplete = inr (inl refl)
     among OutputFull = inr (inr (inl refl))
@@ -80,7 +81,7 @@ decodes_told from reading is_last malformed bytes progress old new some few piec
   moves = (λ wide s. piece.progress wide ((told_full malformed progress.state some few).0 s));
 }
   where
-    among : (state : State) → (state ≡ Malformed → ⊥) → _
+    among : (state : State) → (state ≡ Malformed → ⊥) → IsAmong (OK ∷ INCOMPLETE ∷ FULL ∷ []) (status_of malformed state)
     among InputEmpty never = inl refl
     among Incomplete never = inr (inl refl)
     among OutputFull never = inr (inr (inl refl))
