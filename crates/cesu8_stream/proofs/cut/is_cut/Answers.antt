@@ -1,9 +1,9 @@
-use Rattle.std.proofs.Common.{◌≡◌, ◌⊎◌, ◌-◌, ◌<◌, ◌≤◌, ◌∷◌, [], ℕ, length, drop, arith, inl, inr}
+use Rattle.std.proofs.Common.{◌-◌, ◌≤◌, ◌∷◌, [], ℕ, length, drop, arith, inl, inr}
 use Rattle.std.proofs.lemmas.Bool.{cases_lt}
 use Rattle.std.proofs.lemmas.List.{take_rest}
 use Rattle.cesu8_stream.specs.Written.{Begins}
 use Rattle.cesu8_stream.proofs.First.{Sizes, first_within}
-use Rattle.cesu8_stream.proofs.Cuts.{NoneFrom, one_more, none_crosses}
+use Rattle.cesu8_stream.proofs.Cuts.{one_more, none_crosses}
 use Rattle.cesu8_stream.proofs.cut.is_cut.Goals as goal
 
 pub loop-start-init : goal.loop-start-init

@@ -1,4 +1,4 @@
-use Rattle.std.proofs.Common.{refl, false, ◌+◌, ◌≤◌, ◌-◌, ◌≡◌, length, length-drop, drop, arith}
+use Rattle.std.proofs.Common.{refl, false, ◌≤◌, ◌-◌, ◌≡◌, length, length-drop, drop, arith}
 use Rattle.std.proofs.lemmas.List.{take_rest}
 use Rattle.cesu8_stream.proofs.Pieces.{to_end}
 use Rattle.cesu8_stream.proofs.LossyReadings.{read_on}
