@@ -232,8 +232,8 @@ CESU8_WRITES struct cesu8_reading cesu8_java_read_lossy(
 // begin with no character, whatever follows them. The offset of the damage is what all calls read.
 //
 // However the input is cut and whatever buffers are given, what the calls write, one after another, is
-// what one call would write for the whole input.
-
+// what the call for whole input writes.
+//
 // Decodes a piece of the encoding, as cesu8_decode_strict does. CESU8_OK, CESU8_INVALID,
 // CESU8_INCOMPLETE, CESU8_FULL.
 CESU8_WRITES struct cesu8_progress cesu8_stream_decode_strict(
