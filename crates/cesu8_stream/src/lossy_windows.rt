@@ -9,10 +9,10 @@ use crate::engine::{Moved, convert_window};
 use crate::lossy::Decoding;
 use crate::window::whole_characters;
 
-/// A window of fewer bytes takes no less time than its characters do.
+/// Input that is shorter is left to `lossy`, which then takes no longer.
 const SHORTEST: usize = 64;
 
-/// How many bytes of the input have surely no more bytes than this in the output.
+/// The most bytes of output for a byte of input: U+FFFD in place of a damaged one.
 const WIDEST: usize = 3;
 
 /// Decodes the input, but for a short rest, as far as it fits in the buffer.
