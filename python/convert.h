@@ -18,10 +18,12 @@ static const size_t MOST = PY_SSIZE_T_MAX / 4;
 
 typedef struct cesu8_answer tells(const uint8_t *, size_t);
 typedef struct cesu8_answer writes(const uint8_t *, size_t, uint8_t *, size_t);
+typedef struct cesu8_progress streams(const uint8_t *, size_t, uint8_t *, size_t);
 
 // By whether they are for MUTF-8; and the last by whether they are lenient, and lossy.
 static const char *const ENCODINGS[2] = {"cesu-8", "mutf-8"};
 static tells *const LOOKS[2] = {cesu8_valid_up_to, cesu8_mutf8_valid_up_to};
+static streams *const STREAMS[2] = {cesu8_stream_decode_strict, cesu8_mutf8_stream_decode_strict};
 static writes *const ENCODES[2] = {cesu8_encode, cesu8_mutf8_encode};
 static writes *const DECODES[2][2][2] = {
     {{cesu8_decode_strict, cesu8_decode_lossy_strict}, {cesu8_decode, cesu8_decode_lossy}},
@@ -159,19 +161,10 @@ static PyObject *in_python(const char *name, PyObject *arguments)
 // Whether the input begins a character, and is not all of it.
 static int is_cut(int is_mutf8, struct input input)
 {
-    static const char *const ENDS[] = {
-        "\x80", "\x80\x80", "\xA0\x80", "\x80\xED\xB0\x80", "\xED\xB0\x80", "\xB0\x80", NULL};
-    uint8_t whole[2 * LONGEST];
-    if (input.length >= LONGEST || LOOKS[is_mutf8](input.bytes, input.length).length > 0)
-        return 0;
-    memcpy(whole, input.bytes, input.length);
-    for (const char *const *end = ENDS; *end != NULL; end++) {
-        size_t length = input.length + strlen(*end);
-        memcpy(whole + input.length, *end, strlen(*end));
-        if (LOOKS[is_mutf8](whole, length).length == length)
-            return 1;
-    }
-    return 0;
+    uint8_t text[LONGEST];
+    struct cesu8_progress progress =
+        STREAMS[is_mutf8](input.bytes, input.length, text, sizeof text);
+    return progress.status == CESU8_INCOMPLETE && progress.read == 0;
 }
 
 // Where a character begins that the part's end cuts, or the end. With `surrogatepass` the second of

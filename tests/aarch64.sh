@@ -155,5 +155,6 @@ else
     wrong 'cesu8_damage.c does not build'
 fi
 in_java_units
+in_decode_pipe
 compare_answers
 ((failed == 0))

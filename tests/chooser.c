@@ -65,7 +65,22 @@ static struct {
         return name(input, n, buffer, m).status;                                                   \
     }
 
-#define CALLS(TOLD, PLACED, COMPARED)                                                              \
+// The last argument arrives as it was, if it is true.
+#define STUB_LAST_PLACED(result, name)                                                             \
+    STUB_LEVEL(result, name, 2,                                                                    \
+               (const uint8_t *input, size_t length, uint8_t *buffer, size_t buffer_length,        \
+                bool is_last),                                                                     \
+               buffer, buffer_length + !is_last)                                                   \
+    STUB_LEVEL(result, name, 3,                                                                    \
+               (const uint8_t *input, size_t length, uint8_t *buffer, size_t buffer_length,        \
+                bool is_last),                                                                     \
+               buffer, buffer_length + !is_last)                                                   \
+    static int call_##name(const uint8_t *input, size_t n, uint8_t *buffer, size_t m)              \
+    {                                                                                              \
+        return name(input, n, buffer, m, true).status;                                             \
+    }
+
+#define CALLS(TOLD, PLACED, COMPARED, LAST_PLACED)                                                 \
     TOLD(struct cesu8_decision, cesu8_needs_encoded)                                               \
     TOLD(struct cesu8_decision, cesu8_mutf8_needs_encoded)                                         \
     TOLD(struct cesu8_answer, cesu8_encoded_len)                                                   \
@@ -90,9 +105,15 @@ static struct {
     PLACED(struct cesu8_answer, cesu8_mutf8_decode_lossy)                                          \
     PLACED(struct cesu8_answer, cesu8_java_write)                                                  \
     PLACED(struct cesu8_reading, cesu8_java_read)                                                  \
-    PLACED(struct cesu8_reading, cesu8_java_read_lossy)
+    PLACED(struct cesu8_reading, cesu8_java_read_lossy)                                            \
+    PLACED(struct cesu8_progress, cesu8_stream_decode_strict)                                      \
+    PLACED(struct cesu8_progress, cesu8_mutf8_stream_decode_strict)                                \
+    LAST_PLACED(struct cesu8_progress, cesu8_stream_decode_lossy_strict)                           \
+    LAST_PLACED(struct cesu8_progress, cesu8_mutf8_stream_decode_lossy_strict)                     \
+    PLACED(struct cesu8_progress, cesu8_stream_encode)                                             \
+    PLACED(struct cesu8_progress, cesu8_mutf8_stream_encode)
 
-CALLS(STUB_TOLD, STUB_PLACED, STUB_COMPARED)
+CALLS(STUB_TOLD, STUB_PLACED, STUB_COMPARED, STUB_LAST_PLACED)
 
 typedef int call(const uint8_t *input, size_t length, uint8_t *buffer, size_t buffer_length);
 
@@ -103,7 +124,7 @@ static const struct {
     const char *name;
     call *call;
     bool has_buffer;
-} rows[] = {CALLS(ROW_TOLD, ROW_PLACED, ROW_PLACED)};
+} rows[] = {CALLS(ROW_TOLD, ROW_PLACED, ROW_PLACED, ROW_PLACED)};
 
 enum { ROWS = sizeof rows / sizeof *rows };
 

@@ -72,10 +72,19 @@ static void note(uint32_t status, size_t length, size_t taken, const uint8_t *bu
         add_bytes(buffer, length);
 }
 
+// What a call has told that converts a piece, and written.
+static void note_progress(struct cesu8_progress progress, const uint8_t *buffer)
+{
+    note(progress.status, progress.written, progress.read, NULL);
+    add_bytes(buffer, progress.written);
+}
+
 typedef struct cesu8_answer tells(const uint8_t *, size_t);
 typedef struct cesu8_answer places(const uint8_t *, size_t, uint8_t *, size_t);
 typedef struct cesu8_decision decides(const uint8_t *, size_t);
 typedef struct cesu8_reading reads(const uint8_t *, size_t, uint8_t *, size_t);
+typedef struct cesu8_progress streams(const uint8_t *, size_t, uint8_t *, size_t);
+typedef struct cesu8_progress lossy_streams(const uint8_t *, size_t, uint8_t *, size_t, bool);
 
 static tells *const telling[] = {
     cesu8_encoded_len,       cesu8_mutf8_encoded_len, cesu8_utf16_len,
@@ -92,6 +101,13 @@ static places *const placing[] = {
 };
 static decides *const deciding[] = {cesu8_needs_encoded, cesu8_mutf8_needs_encoded};
 static reads *const reading[] = {cesu8_java_read, cesu8_java_read_lossy};
+static streams *const streaming[] = {
+    cesu8_stream_decode_strict, cesu8_mutf8_stream_decode_strict,
+    cesu8_stream_encode,        cesu8_mutf8_stream_encode,
+};
+static lossy_streams *const streaming_lossily[] = {
+    cesu8_stream_decode_lossy_strict, cesu8_mutf8_stream_decode_lossy_strict,
+};
 
 // Makes the calls whose turn it is. Two bytes stand before the input, which count its bytes for the
 // calls of Java.
@@ -107,6 +123,9 @@ static void call_in_turn(const uint8_t *input, size_t length, uint8_t *buffer)
         struct cesu8_answer answer = placing[i](input, length, buffer, room);
         note(answer.status, answer.length, 0, buffer);
     }
+    note_progress(streaming[due](input, length, buffer, room), buffer);
+    if (due < LENGTH(streaming_lossily))
+        note_progress(streaming_lossily[due](input, length, buffer, room, length % 2 == 0), buffer);
     if (due < LENGTH(deciding)) {
         struct cesu8_decision decision = deciding[due](input, length);
         note(decision.status, decision.is_needed, 0, NULL);

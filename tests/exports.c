@@ -34,6 +34,9 @@ HAS(cesu8_decision, is_needed, bool);
 HAS(cesu8_reading, status, enum cesu8_status);
 HAS(cesu8_reading, length, size_t);
 HAS(cesu8_reading, taken, size_t);
+HAS(cesu8_progress, status, enum cesu8_status);
+HAS(cesu8_progress, read, size_t);
+HAS(cesu8_progress, written, size_t);
 
 // With these sizes and members, the records are passed as both calling conventions have them.
 _Static_assert(sizeof(enum cesu8_status) == 4, "enum cesu8_status");
@@ -41,6 +44,7 @@ _Static_assert(sizeof(struct cesu8_answer) == 16, "struct cesu8_answer");
 _Static_assert(sizeof(struct cesu8_comparison) == 8, "struct cesu8_comparison");
 _Static_assert(sizeof(struct cesu8_decision) == 8, "struct cesu8_decision");
 _Static_assert(sizeof(struct cesu8_reading) == 24, "struct cesu8_reading");
+_Static_assert(sizeof(struct cesu8_progress) == 24, "struct cesu8_progress");
 
 // The macros take an expression of any type, and multiply it as a size_t.
 _Static_assert(CESU8_MAX_ENCODED(INT_MAX - 1 + 1) == 2 * (size_t)INT_MAX, "CESU8_MAX_ENCODED");
@@ -554,10 +558,13 @@ static void look_at_plain_calls(void)
                                         "input is truncated",
                                         "text is too long",
                                         "buffer too short",
+                                        "input ends within a character",
+                                        "buffer is full",
                                         "unknown status",
                                         "unknown status"};
     static const uint32_t statuses[] = {
-        OK, NOT_UTF8, INVALID, TRUNCATED, TOO_LONG, CESU8_TOO_SMALL, CESU8_TOO_SMALL + 1, UINT32_MAX};
+        OK,         NOT_UTF8,   INVALID,        TRUNCATED, TOO_LONG, CESU8_TOO_SMALL,
+        CESU8_INCOMPLETE, CESU8_FULL, CESU8_FULL + 1, UINT32_MAX};
     for (size_t i = 0; i < sizeof statuses / sizeof *statuses; i++)
         hold(strcmp(cesu8_status_text(statuses[i]), texts[i]) == 0, "cesu8_status_text", texts[i]);
     hold(cesu8_version() == CESU8_VERSION, "cesu8_version", "another version than the header's");
@@ -572,6 +579,189 @@ static void look_at_plain_calls(void)
 }
 
 #endif
+
+// A call that converts a piece, with or without an argument that says that the piece is the last.
+typedef struct cesu8_progress stream(
+    const uint8_t *input, size_t length, uint8_t *buffer, size_t buffer_length, bool is_last);
+
+#define CONVERTS(name)                                                                             \
+    static struct cesu8_progress name(                                                             \
+        const uint8_t *input, size_t n, uint8_t *buffer, size_t m, bool is_last)                   \
+    {                                                                                              \
+        (void)is_last;                                                                             \
+        return cesu8_##name(input, n, buffer, m);                                                  \
+    }
+#define CONVERTS_LAST(name)                                                                        \
+    static struct cesu8_progress name(                                                             \
+        const uint8_t *input, size_t n, uint8_t *buffer, size_t m, bool is_last)                   \
+    {                                                                                              \
+        return cesu8_##name(input, n, buffer, m, is_last);                                         \
+    }
+
+CONVERTS(stream_decode_strict)
+CONVERTS(mutf8_stream_decode_strict)
+CONVERTS_LAST(stream_decode_lossy_strict)
+CONVERTS_LAST(mutf8_stream_decode_lossy_strict)
+CONVERTS(stream_encode)
+CONVERTS(mutf8_stream_encode)
+
+// What one call makes of a piece in a buffer of this length.
+struct piece_row {
+    const char *name;
+    stream *call;
+    struct bytes input;
+    size_t buffer_length;
+    bool is_last;
+    enum cesu8_status status;
+    size_t read;
+    struct bytes written;
+};
+
+#define INCOMPLETE CESU8_INCOMPLETE
+#define FULL CESU8_FULL
+#define CUT_PAIR "\xED\xA0\x81\xED\xB0" // U+10400 in CESU-8 without its last byte
+
+static const struct piece_row piece_rows[] = {
+    {CALL(stream_decode_strict), BYTES(ALIKE ZERO SURROGATES), 11, true, OK, 13,
+     BYTES(ALIKE ZERO FOUR_BYTES)},
+    {CALL(stream_decode_strict), BYTES(ALIKE ZERO SURROGATES), 10, true, FULL, 7, BYTES(ALIKE ZERO)},
+    {CALL(stream_decode_strict), BYTES(ALIKE), 2, true, FULL, 1, BYTES("a")},
+    {CALL(stream_decode_strict), BYTES(ALIKE), 0, true, FULL, 0, BYTES("")},
+    {CALL(stream_decode_strict), BYTES(ALIKE CUT_PAIR), 90, false, INCOMPLETE, 6, BYTES(ALIKE)},
+    {CALL(stream_decode_strict), BYTES("\xED\xA0"), 0, false, INCOMPLETE, 0, BYTES("")},
+    {CALL(stream_decode_strict), BYTES(ALIKE FOUR_BYTES), 90, true, INVALID, 6, BYTES(ALIKE)},
+    {CALL(stream_decode_strict), BYTES(ALIKE C0_80), 90, true, INVALID, 6, BYTES(ALIKE)},
+    {CALL(stream_decode_strict), BYTES("\xED\xB0\x80" ALIKE), 90, true, INVALID, 0, BYTES("")},
+    {CALL(stream_decode_strict), BYTES("\xED\xA0\x81" ALIKE), 90, true, INVALID, 0, BYTES("")},
+    {CALL(stream_decode_strict), BYTES(TIMES_100(ALIKE SURROGATES) "\xE2"), 1000, true, INCOMPLETE,
+     1200, BYTES(TIMES_100(ALIKE FOUR_BYTES))},
+    {CALL(stream_decode_strict), BYTES(""), 0, true, OK, 0, BYTES("")},
+    {CALL(mutf8_stream_decode_strict), BYTES(ALIKE C0_80 SURROGATES), 11, true, OK, 14,
+     BYTES(ALIKE ZERO FOUR_BYTES)},
+    {CALL(mutf8_stream_decode_strict), BYTES(C0_80 C0_80 "\xC0"), 90, true, INCOMPLETE, 4,
+     BYTES(ZERO ZERO)},
+    {CALL(mutf8_stream_decode_strict), BYTES(C0_80 C0_80), 1, true, FULL, 2, BYTES(ZERO)},
+    {CALL(mutf8_stream_decode_strict), BYTES(ALIKE ZERO), 90, true, INVALID, 6, BYTES(ALIKE)},
+    {CALL(mutf8_stream_decode_strict), BYTES(""), 0, true, OK, 0, BYTES("")},
+    {CALL(stream_decode_lossy_strict), BYTES("\xFF" SURROGATES "\xFF"), 90, false, OK, 8,
+     BYTES(REPLACEMENT FOUR_BYTES REPLACEMENT)},
+    {CALL(stream_decode_lossy_strict), BYTES(ALIKE "\xFF" ALIKE), 8, true, FULL, 6, BYTES(ALIKE)},
+    {CALL(stream_decode_lossy_strict), BYTES(ALIKE "\xED\xA0"), 90, false, INCOMPLETE, 6,
+     BYTES(ALIKE)},
+    {CALL(stream_decode_lossy_strict), BYTES(ALIKE "\xED\xA0"), 90, true, OK, 8,
+     BYTES(ALIKE REPLACEMENT REPLACEMENT)},
+    {CALL(stream_decode_lossy_strict), BYTES(ALIKE "\xED\xA0"), 9, true, FULL, 7,
+     BYTES(ALIKE REPLACEMENT)},
+    {CALL(stream_decode_lossy_strict), BYTES(FOUR_BYTES C0_80), 90, false, OK, 6,
+     BYTES(REPLACEMENT REPLACEMENT REPLACEMENT REPLACEMENT REPLACEMENT REPLACEMENT)},
+    {CALL(stream_decode_lossy_strict), BYTES(""), 0, true, OK, 0, BYTES("")},
+    {CALL(mutf8_stream_decode_lossy_strict), BYTES(ZERO C0_80 "\xC0"), 90, false, INCOMPLETE, 3,
+     BYTES(REPLACEMENT ZERO)},
+    {CALL(mutf8_stream_decode_lossy_strict), BYTES(ZERO C0_80 "\xC0"), 90, true, OK, 4,
+     BYTES(REPLACEMENT ZERO REPLACEMENT)},
+    {CALL(mutf8_stream_decode_lossy_strict), BYTES(""), 0, false, OK, 0, BYTES("")},
+    {CALL(stream_encode), BYTES(ALIKE ZERO FOUR_BYTES), 13, true, OK, 11,
+     BYTES(ALIKE ZERO SURROGATES)},
+    {CALL(stream_encode), BYTES(ALIKE ZERO FOUR_BYTES), 12, true, FULL, 7, BYTES(ALIKE ZERO)},
+    {CALL(stream_encode), BYTES(ALIKE "\xF0\x90\x90"), 90, true, INCOMPLETE, 6, BYTES(ALIKE)},
+    {CALL(stream_encode), BYTES(ALIKE SURROGATES), 90, true, NOT_UTF8, 6, BYTES(ALIKE)},
+    {CALL(stream_encode), BYTES("\xF5\x80"), 90, true, NOT_UTF8, 0, BYTES("")},
+    {CALL(stream_encode), BYTES(TIMES_100(ALIKE FOUR_BYTES)), 1199, true, FULL, 996,
+     BYTES(TIMES_20(ALIKE SURROGATES) TIMES_20(ALIKE SURROGATES) TIMES_20(ALIKE SURROGATES)
+               TIMES_20(ALIKE SURROGATES) TIMES_5(ALIKE SURROGATES) TIMES_5(ALIKE SURROGATES)
+                   TIMES_5(ALIKE SURROGATES) ALIKE SURROGATES ALIKE SURROGATES ALIKE SURROGATES
+                       ALIKE SURROGATES ALIKE)},
+    {CALL(stream_encode), BYTES(""), 0, true, OK, 0, BYTES("")},
+    {CALL(mutf8_stream_encode), BYTES(ALIKE ZERO FOUR_BYTES), 14, true, OK, 11,
+     BYTES(ALIKE C0_80 SURROGATES)},
+    {CALL(mutf8_stream_encode), BYTES(ZERO ZERO ZERO), 5, true, FULL, 2, BYTES(C0_80 C0_80)},
+    {CALL(mutf8_stream_encode), BYTES(C0_80), 90, true, NOT_UTF8, 0, BYTES("")},
+    {CALL(mutf8_stream_encode), BYTES(""), 0, true, OK, 0, BYTES("")},
+};
+
+// Makes the call of a row, with the piece and the buffer on these sides of their blocks.
+static void convert_row(const struct piece_row *row, enum side side, bool is_null)
+{
+    static struct block inputs, buffers;
+    static char wanted[4096];
+    if (inputs.start == NULL) {
+        inputs = new_block();
+        buffers = new_block();
+    }
+    size_t n = row->input.length, m = row->buffer_length;
+    char *input = place(inputs, side, n), *buffer = place(buffers, side, m);
+    memcpy(input, row->input.start, n);
+    memset(buffer, FILLING, m);
+    memset(wanted, FILLING, sizeof wanted);
+    memcpy(wanted, row->written.start, row->written.length);
+    struct cesu8_progress got = row->call(is_null && n == 0 ? NULL : (const uint8_t *)input, n,
+                                          is_null && m == 0 ? NULL : (uint8_t *)buffer, m,
+                                          row->is_last);
+    hold(got.status == row->status, row->name, "stops for another reason");
+    hold(got.read == row->read, row->name, "reads another number of bytes");
+    hold(got.written == row->written.length, row->name, "writes another number of bytes");
+    hold(memcmp(buffer, wanted, m) == 0, row->name, "leaves other bytes in the buffer");
+}
+
+// An input that is converted in pieces, and all that the calls write.
+struct joined_row {
+    const char *name;
+    stream *call;
+    struct bytes input, written;
+};
+
+static const struct joined_row joined_rows[] = {
+    {CALL(stream_decode_strict), BYTES(ALIKE SURROGATES ZERO ALIKE SURROGATES),
+     BYTES(ALIKE FOUR_BYTES ZERO ALIKE FOUR_BYTES)},
+    {CALL(mutf8_stream_decode_strict), BYTES(C0_80 SURROGATES ALIKE C0_80 SURROGATES),
+     BYTES(ZERO FOUR_BYTES ALIKE ZERO FOUR_BYTES)},
+    {CALL(stream_decode_lossy_strict), BYTES("\xED\xA0" SURROGATES "\xB0" ALIKE CUT_PAIR),
+     BYTES(REPLACEMENT REPLACEMENT FOUR_BYTES REPLACEMENT ALIKE REPLACEMENT REPLACEMENT REPLACEMENT
+               REPLACEMENT REPLACEMENT)},
+    {CALL(mutf8_stream_decode_lossy_strict), BYTES("\xC0" C0_80 ZERO SURROGATES "\xE2\x82" ALIKE),
+     BYTES(REPLACEMENT ZERO REPLACEMENT FOUR_BYTES REPLACEMENT REPLACEMENT ALIKE)},
+    {CALL(stream_encode), BYTES(FOUR_BYTES ALIKE ZERO FOUR_BYTES ALIKE),
+     BYTES(SURROGATES ALIKE ZERO SURROGATES ALIKE)},
+    {CALL(mutf8_stream_encode), BYTES(FOUR_BYTES ALIKE ZERO FOUR_BYTES ALIKE),
+     BYTES(SURROGATES ALIKE C0_80 SURROGATES ALIKE)},
+};
+
+// Converts the input in pieces of `step` bytes, by a buffer of `m` bytes for each call, and compares all
+// that is written.
+static bool converts_joined(const struct joined_row *row, size_t step, size_t m)
+{
+    uint8_t output[256];
+    size_t at = 0, end = 0, length = 0;
+    struct cesu8_progress made;
+    do {
+        if (end < row->input.length)
+            end = row->input.length - end < step ? row->input.length : end + step;
+        do {
+            made = row->call((const uint8_t *)row->input.start + at, end - at, output + length, m,
+                             end == row->input.length);
+            at += made.read, length += made.written;
+            if (made.status == FULL && made.read == 0)
+                return false;
+        } while (made.status == FULL);
+    } while (made.status == INCOMPLETE ? end < row->input.length
+                                       : made.status == OK && at < row->input.length);
+    return made.status == OK && at == row->input.length && length == row->written.length
+        && memcmp(output, row->written.start, length) == 0;
+}
+
+static void look_at_pieces(void)
+{
+    for (const struct piece_row *row = piece_rows;
+         row < piece_rows + sizeof piece_rows / sizeof *piece_rows; row++)
+        for (enum side side = FRONT; side <= END; side++)
+            for (int is_null = 0; is_null <= MOST_NULLS; is_null++)
+                convert_row(row, side, is_null);
+    for (const struct joined_row *row = joined_rows;
+         row < joined_rows + sizeof joined_rows / sizeof *joined_rows; row++)
+        for (size_t step = 1; step <= row->input.length; step++)
+            for (size_t m = 6; m <= 20; m++)
+                hold(converts_joined(row, step, m), row->name, "converts pieces otherwise");
+}
 
 static void call_row(const struct row *row, size_t buffer_length)
 {
@@ -595,6 +785,7 @@ int main(void)
         look_at_macro(macro);
     look_at_terminated();
     look_at_plain_calls();
+    look_at_pieces();
     for (const struct row *row = rows; row < rows + sizeof rows / sizeof *rows; row++) {
         size_t needed = row->status == OK ? row->answer.length : row->input.length;
         // Each length up to one more than is needed; of the longest ones the first and the last. And

@@ -105,8 +105,8 @@ build_library() {
 all_are_named
 if can_build_c 'the header in C, the chooser and the calls from C'; then
     compile_header cc c 'c99 c11 c17 c2x' -Wall -Wextra -Wconversion
-    warns_by warn_unused_result 1 2
-    warns_by access 3 4 5 6 7
+    warns_by warn_unused_result 1 2 8
+    warns_by access 3 4 5 6 7 9
     run_chooser
 fi
 if can_build_cpp 'the header in C++'; then

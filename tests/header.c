@@ -34,11 +34,17 @@ static size_t of_reading(struct cesu8_reading reading)
     return reading.status == CESU8_OK ? reading.length + reading.taken : 0;
 }
 
+static size_t of_progress(struct cesu8_progress progress)
+{
+    return progress.status == CESU8_OK ? progress.read + progress.written : 0;
+}
+
 static bool is_status(enum cesu8_status status)
 {
     bool is_any = status == CESU8_OK || status == CESU8_NOT_UTF8 || status == CESU8_INVALID
-        || status == CESU8_TRUNCATED || status == CESU8_TOO_LONG || status == CESU8_TOO_SMALL;
-    return is_any && cesu8_status_text(status) != cesu8_status_text(6);
+        || status == CESU8_TRUNCATED || status == CESU8_TOO_LONG || status == CESU8_TOO_SMALL
+        || status == CESU8_INCOMPLETE || status == CESU8_FULL;
+    return is_any && cesu8_status_text(status) != cesu8_status_text(8);
 }
 
 #ifdef WRONG
@@ -58,6 +64,10 @@ static void do_wrong(void)
     of_answer(cesu8_encode(text, sizeof text, NULL, sizeof encoded));
 #elif WRONG == 7
     of_comparison(cesu8_compare_as_utf16(text, sizeof text, text, sizeof text + 1));
+#elif WRONG == 8
+    cesu8_stream_encode(text, sizeof text, encoded, sizeof encoded);
+#elif WRONG == 9
+    of_progress(cesu8_stream_decode_lossy_strict(text, sizeof text, decoded, sizeof decoded + 1, true));
 #endif
 }
 #endif
@@ -98,5 +108,11 @@ int main(void)
     sum += of_answer(cesu8_java_write(text, n, written, sizeof written));
     sum += of_reading(cesu8_java_read(text, n, read, sizeof read));
     sum += of_reading(cesu8_java_read_lossy(text, n, read_lossily, sizeof read_lossily));
+    sum += of_progress(cesu8_stream_decode_strict(text, n, decoded, sizeof decoded));
+    sum += of_progress(cesu8_mutf8_stream_decode_strict(text, n, decoded, sizeof decoded));
+    sum += of_progress(cesu8_stream_decode_lossy_strict(text, n, decoded, sizeof decoded, true));
+    sum += of_progress(cesu8_mutf8_stream_decode_lossy_strict(text, n, decoded, sizeof decoded, true));
+    sum += of_progress(cesu8_stream_encode(text, n, encoded, sizeof encoded));
+    sum += of_progress(cesu8_mutf8_stream_encode(text, n, encoded, sizeof encoded));
     return is_any && sum != 0 ? 0 : 1;
 }

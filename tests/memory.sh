@@ -1,6 +1,6 @@
 #!/usr/bin/env bash
-# Counts and refuses requests for memory, by each public call of `simd_cesu8` and `java_text`.
-# tests/requests.sh does so for the built program.
+# Counts and refuses requests for memory, by each public call of `simd_cesu8`, `java_text` and
+# `cesu8_stream`. tests/requests.sh does so for the built program.
 #
 # The rows below are every public call, on inputs that borrow, build, are refused and are empty, and
 # at the lengths where blocks begin and end. A row has the expected result and the number of requests.
@@ -9,8 +9,8 @@
 # - what is built, copied or refused takes one, and so does what is appended if the buffer is full;
 # - what is appended leaves a full buffer with twice its capacity, with what is needed, or with 8 bytes,
 #   whichever is most, as `Vec::push` does; one with enough room keeps its capacity;
-# - an empty copy, a length, a comparison, a result in a slice, and a Java string that is too long or
-#   cut short take none.
+# - an empty copy, a length, a comparison, a result in a slice, a piece, and a Java string that is too
+#   long or cut short take none.
 #
 # The program of crates/memory_calls makes the calls that its standard input names, on one input. It
 # prints each result, and how many of three further requests are granted before one is refused.
@@ -155,6 +155,7 @@ encode_rows() {
         row "encoded_len $encoding" "$utf8" "$length" 0 ''
         row "counted_len $encoding" "$utf8" "$length" 0 ''
         row "encode_to_slice $encoding" "$utf8" written 0 "$encoded"
+        row "stream_encode $encoding" "$utf8" all 0 "$encoded"
     done
 }
 
@@ -206,6 +207,9 @@ encoding_rows() {
             row "${call}_to_slice $encoding" "$encoded" written 0 "$utf8"
         done
         row "decode_strict_front $encoding" "$encoded" "$outcome" "$requests" "$utf8"
+        for call in stream_decode_strict stream_decode_lossy_strict; do
+            row "$call $encoding" "$encoded" all 0 "$utf8"
+        done
         if ((requests > 0)); then row 'text_of cesu8' "$encoded" none 0 ''; fi
         row "decoded_len $encoding" "$encoded" "$length" 0 ''
         row "lossy_len $encoding" "$encoded" "$length" 0 ''
@@ -241,9 +245,10 @@ utf8_rows() {
 
 # The same calls, on the encoding of the text that is kept and then so many bytes that are in no
 # encoded character. One request comes before the first byte is read, so its refusal hides the damage:
-# `damage_rows COUNT BYTES`.
+# `damage_rows COUNT BYTES`. The first half of a pair may go on in the next piece.
 damage_rows() {
-    local encoding damaged reading length call bytes
+    local encoding damaged reading length call bytes reason=malformed
+    [[ $2 == '\xED\xA0\xBD' ]] && reason=incomplete
     repeat "$1" "$mark"
     reading=$utf8$bytes
     measure "$reading"
@@ -258,6 +263,8 @@ damage_rows() {
         done
         row 'text_of cesu8' "$damaged" none 0 ''
         row "decode_strict_front $encoding" "$damaged" invalid 1 ''
+        row "stream_decode_strict $encoding" "$damaged" "$reason" 0 "$utf8"
+        row "stream_decode_lossy_strict $encoding" "$damaged" all 0 "$reading"
         row "decoded_len $encoding" "$damaged" none 0 ''
         row "lossy_len $encoding" "$damaged" "$length" 0 ''
         measure "${!encoding}"

@@ -281,6 +281,45 @@ in_java_units() {
     rm -r "$scratch/jdk"
 }
 
+# Input of more than one piece, of which the end cuts a character in each way, and input that is damaged,
+# that ends within a character, and that is empty. Then what fails.
+in_decode_pipe() {
+    local program=$scratch/decode_pipe front
+    compile -std=c99 -Wall -Wextra -Wconversion -pedantic -Werror -I "$unpacked/include" \
+        -o "$program" "$unpacked/examples/decode_pipe.c" "$unpacked/lib/libcesu8.a" ||
+        { wrong 'decode_pipe.c does not build'; return; }
+    repeated 20000 '\xED\xA0\xBD\xED\xB2\x96\xC0\x80' >"$scratch/encoded"
+    repeated 20000 '\xF0\x9F\x92\x96\x00' >"$scratch/decoded"
+    for front in '' a aa aaa aaaa aaaaa aaaaaa aaaaaaa; do
+        diff <({ printf '%s' "$front" && cat "$scratch/encoded"; } | "$program" 2>&1 | md5sum) \
+            <({ printf '%s' "$front" && cat "$scratch/decoded"; } | md5sum) ||
+            wrong "decode_pipe.c gives other text after ${#front} letters"
+    done
+    decodes_up_to 1 'byte 160000: invalid input' '\xFF'
+    decodes_up_to 1 'byte 160001: invalid input' 'a\x00'
+    decodes_up_to 1 'byte 160000: input ends within a character' '\xED\xA0\xBD\xED\xB2'
+    "$program" </dev/null >"$scratch/printed" || wrong 'decode_pipe.c refuses empty input'
+    [[ ! -s $scratch/printed ]] || wrong 'decode_pipe.c makes something of empty input'
+    "$program" <"$scratch" >"$scratch/printed" 2>"$scratch/said"
+    [[ $? == 2 && $(<"$scratch/said") == 'decode_pipe: Is a directory' ]] ||
+        wrong 'decode_pipe.c takes a folder for an empty file'
+    "$program" <"$scratch/encoded" >/dev/full 2>"$scratch/said"
+    [[ $? == 2 && -s $scratch/said ]] || wrong 'decode_pipe.c succeeds if a write fails'
+    stops_reading decode_pipe.c 2 "$program" < <(yes 2>/dev/null)
+    echo 'decode_pipe.c was built and run'
+}
+
+# That decode_pipe.c writes what precedes a fault, and what it says: `decodes_up_to STATUS LINE BYTES`.
+decodes_up_to() {
+    local status=0
+    { cat "$scratch/encoded" && printf '%b' "$3"; } |
+        "$scratch/decode_pipe" >"$scratch/printed" 2>"$scratch/said" || status=$?
+    ((status == $1)) || wrong "decode_pipe.c ends with status $status for $3"
+    diff <(echo "$2") "$scratch/said" || wrong "decode_pipe.c says something else of $3"
+    head -c 100000 "$scratch/printed" | cmp - "$scratch/decoded" ||
+        wrong "decode_pipe.c loses what precedes $3"
+}
+
 # Tests that java_units.c rejects these bytes after the strings of in_java_units:
 # `refuses_units BYTES WHY`.
 refuses_units() {

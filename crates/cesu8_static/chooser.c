@@ -38,6 +38,11 @@ static uint8_t nothing;
     CHOOSE(result, name,                                                                           \
            (const uint8_t *input, size_t length, uint8_t *buffer, size_t buffer_length),           \
            (input ? input : &nothing, length, buffer ? buffer : &nothing, buffer_length))
+#define CHOOSE_LAST_PLACED(result, name)                                                           \
+    CHOOSE(result, name,                                                                           \
+           (const uint8_t *input, size_t length, uint8_t *buffer, size_t buffer_length,            \
+            bool is_last),                                                                         \
+           (input ? input : &nothing, length, buffer ? buffer : &nothing, buffer_length, is_last))
 
 CHOOSE_TOLD(struct cesu8_decision, cesu8_needs_encoded)
 CHOOSE_TOLD(struct cesu8_decision, cesu8_mutf8_needs_encoded)
@@ -64,3 +69,9 @@ CHOOSE_TOLD(struct cesu8_answer, cesu8_mutf8_lossy_len)
 CHOOSE_PLACED(struct cesu8_answer, cesu8_java_write)
 CHOOSE_PLACED(struct cesu8_reading, cesu8_java_read)
 CHOOSE_PLACED(struct cesu8_reading, cesu8_java_read_lossy)
+CHOOSE_PLACED(struct cesu8_progress, cesu8_stream_decode_strict)
+CHOOSE_PLACED(struct cesu8_progress, cesu8_mutf8_stream_decode_strict)
+CHOOSE_LAST_PLACED(struct cesu8_progress, cesu8_stream_decode_lossy_strict)
+CHOOSE_LAST_PLACED(struct cesu8_progress, cesu8_mutf8_stream_decode_lossy_strict)
+CHOOSE_PLACED(struct cesu8_progress, cesu8_stream_encode)
+CHOOSE_PLACED(struct cesu8_progress, cesu8_mutf8_stream_encode)

@@ -19,6 +19,10 @@ const char *cesu8_status_text(uint32_t status)
         return "text is too long";
     case CESU8_TOO_SMALL:
         return "buffer too short";
+    case CESU8_INCOMPLETE:
+        return "input ends within a character";
+    case CESU8_FULL:
+        return "buffer is full";
     default:
         return "unknown status";
     }

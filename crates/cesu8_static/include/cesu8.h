@@ -56,7 +56,10 @@ enum cesu8_status {
     CESU8_INVALID = 2,   // The input is the encoding of no text.
     CESU8_TRUNCATED = 3, // Fewer than two bytes, or fewer after them than they count.
     CESU8_TOO_LONG = 4,  // More bytes than a Java string or a size_t can count.
-    CESU8_TOO_SMALL = 5  // The buffer is shorter than the result.
+    CESU8_TOO_SMALL = 5, // The buffer is shorter than the result.
+    // Only from the cesu8_stream calls:
+    CESU8_INCOMPLETE = 6, // The piece ends within a character.
+    CESU8_FULL = 7        // The next character does not fit in what is left of the buffer.
 };
 
 // The library returns a status in 32 bits.
@@ -83,6 +86,12 @@ struct cesu8_reading {
     size_t taken;  // The bytes of the input that the string takes. With CESU8_TRUNCATED it is 0.
 };
 
+struct cesu8_progress {
+    enum cesu8_status status; // Why the call stopped.
+    size_t read;              // How many bytes at the start of the input were read.
+    size_t written;           // How many bytes at the start of the buffer were written.
+};
+
 // Every input and every buffer is a pointer and a length in bytes. A pointer may be null where the
 // length is 0, but for the library of one level that `rt lib` builds. A buffer shares no byte with
 // the input.
@@ -91,8 +100,9 @@ struct cesu8_reading {
 // sanitizer does, since the library is built without one. GCC warns if it knows how many there are.
 //
 // With CESU8_OK a result of bytes stands at the front of the buffer. The bytes behind it, and with
-// any other status the whole buffer, are as before. No terminating NUL is written. MUTF-8 has no byte
-// 00, so for JNI a 0 may be put behind it: give the call a byte less than the buffer has.
+// any other status the whole buffer, are as before. (The cesu8_stream calls write with every status:
+// see there.) No terminating NUL is written. MUTF-8 has no byte 00, so for JNI a 0 may be put behind
+// it: give the call a byte less than the buffer has.
 //
 // CESU8_TOO_SMALL comes exactly where there is a result and it is longer than the buffer. A buffer
 // of the length that comes with it is enough, so a call with a buffer of length 0 asks how much is
@@ -205,6 +215,46 @@ CESU8_WRITES struct cesu8_reading cesu8_java_read(
     const uint8_t *bytes, size_t bytes_length, uint8_t *buffer, size_t buffer_length);
 CESU8_WRITES struct cesu8_reading cesu8_java_read_lossy(
     const uint8_t *bytes, size_t bytes_length, uint8_t *buffer, size_t buffer_length);
+
+// The calls for input that comes in pieces, as from a file or a socket. A call reads as much of the
+// piece as fits in the buffer: `read` bytes of it, for `written` bytes at the start of the buffer,
+// whose rest is unchanged. The status says why it stopped:
+//
+// CESU8_OK: all bytes of the piece were read.
+//
+// CESU8_INCOMPLETE: the bytes that are left, at most five, are a part of a character. Call again with
+// these and more. If there are no more, the input ends within a character.
+//
+// CESU8_FULL: the next character does not fit in what is left of the buffer. Call again with the bytes
+// that are left, and more space. With a buffer of six bytes or more, something was read.
+//
+// CESU8_INVALID from the decoding calls, CESU8_NOT_UTF8 from the encoding ones: the bytes that are left
+// begin with no character, whatever follows them. The offset of the damage is what all calls read.
+//
+// However the input is cut and whatever buffers are given, what the calls write, one after another, is
+// what the call for whole input writes.
+//
+// Decodes a piece of the encoding, as cesu8_decode_strict does. CESU8_OK, CESU8_INVALID,
+// CESU8_INCOMPLETE, CESU8_FULL.
+CESU8_WRITES struct cesu8_progress cesu8_stream_decode_strict(
+    const uint8_t *bytes, size_t bytes_length, uint8_t *buffer, size_t buffer_length);
+CESU8_WRITES struct cesu8_progress cesu8_mutf8_stream_decode_strict(
+    const uint8_t *bytes, size_t bytes_length, uint8_t *buffer, size_t buffer_length);
+
+// Decodes a piece of the encoding with damage, as cesu8_decode_lossy_strict does. `is_last` says that
+// the input ends with the piece: then a part of a character at the end is damage too. CESU8_OK,
+// CESU8_INCOMPLETE, CESU8_FULL.
+CESU8_WRITES struct cesu8_progress cesu8_stream_decode_lossy_strict(
+    const uint8_t *bytes, size_t bytes_length, uint8_t *buffer, size_t buffer_length, bool is_last);
+CESU8_WRITES struct cesu8_progress cesu8_mutf8_stream_decode_lossy_strict(
+    const uint8_t *bytes, size_t bytes_length, uint8_t *buffer, size_t buffer_length, bool is_last);
+
+// Encodes a piece of UTF-8, as cesu8_encode does. CESU8_OK, CESU8_NOT_UTF8, CESU8_INCOMPLETE,
+// CESU8_FULL.
+CESU8_WRITES struct cesu8_progress cesu8_stream_encode(
+    const uint8_t *text, size_t text_length, uint8_t *buffer, size_t buffer_length);
+CESU8_WRITES struct cesu8_progress cesu8_mutf8_stream_encode(
+    const uint8_t *text, size_t text_length, uint8_t *buffer, size_t buffer_length);
 
 // The two calls that the library of one level, which `rt lib` builds, does not have.
 //

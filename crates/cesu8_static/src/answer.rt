@@ -17,6 +17,10 @@ pub const TRUNCATED: u32 = 3;
 pub const TOO_LONG: u32 = 4;
 /// The result is longer than the buffer.
 pub const TOO_SMALL: u32 = 5;
+/// The piece ends within a character.
+pub const INCOMPLETE: u32 = 6;
+/// The next character does not fit in what is left of the buffer.
+pub const FULL: u32 = 7;
 
 /// What a call returns.
 #[repr(C)]

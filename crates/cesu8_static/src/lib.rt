@@ -1,25 +1,30 @@
-//! The library for C: the calls of `simd_cesu8` and `java_text` over byte slices.
+//! The library for C: the calls of `simd_cesu8`, `java_text` and `cesu8_stream` over byte slices.
 //!
 //! C passes each slice as a pointer and a length, as `include/cesu8.h` declares it. A call returns
 //! a status and the length of its result, and writes the result at the front of the caller's
-//! buffer. If the buffer is too short, it returns `TOO_SMALL` and the needed length. No call takes
-//! memory. The calls here are for CESU-8, those of [`mutf8`] for MUTF-8, and those of [`java`] for
-//! Java strings with their length in front.
+//! buffer. If the buffer is too short, it returns `TOO_SMALL` and the needed length. The `stream`
+//! calls, for input that comes in pieces, write as much as fits, and return a status, how many bytes
+//! they read and how many they wrote. No call takes memory. The calls here are for CESU-8, those of
+//! [`mutf8`] for MUTF-8, and those of [`java`] for Java strings with their length in front.
 #![tactic(auto)]
 
 ghost use Rattle.std.specs.Prelude.{◌≡◌};
-ghost use Rattle.simd_cesu8.specs.Encoding.{Cesu8};
+ghost use Rattle.simd_cesu8.specs.Text.{utf8};
+ghost use Rattle.simd_cesu8.specs.Encoding.{Cesu8, encoding};
 ghost use Rattle.simd_cesu8.specs.Reading.{IsStrictReading, IsLenientReading, reading, IsLenientLossyReading};
 ghost use Rattle.cesu8_static.specs.Answers.{DecidesNeed, TellsEncodedLength, TellsUtf16Length, ComparesTexts, TellsDecodedLength, TellsLossyLength, TellsValidFront, Encodes, Decodes, DecodesLossily};
+ghost use Rattle.cesu8_static.specs.Pieces.{ConvertsPiece, DecodesPiece};
 
 mod answer;
 mod comparison;
 pub mod java;
 pub mod mutf8;
+mod progress;
 
 pub use crate::answer::{Answer, Decision, Reading};
 use crate::answer::{INVALID, NOT_UTF8, TOO_LONG};
 pub use crate::comparison::Comparison;
+pub use crate::progress::Progress;
 use simd_cesu8::implementation::text_of;
 
 /// Returns whether the CESU-8 of a text in UTF-8 differs from the UTF-8, as
@@ -154,4 +159,42 @@ pub extern "C" fn cesu8_lossy_len(bytes: &[u8]) -> Answer
         Some(length) => Answer::of_length(length),
         None => Answer::without(TOO_LONG),
     }
+}
+
+/// Decodes a piece of CESU-8 to UTF-8, as much as fits in the buffer, as
+/// `cesu8_stream::decode_strict` does. `INVALID` means that the bytes from `read` on begin with no
+/// encoded character, whatever follows them.
+#[unsafe(no_mangle)]
+pub extern "C" fn cesu8_stream_decode_strict(bytes: &[u8], buf: &mut [u8]) -> Progress
+    ensures { ConvertsPiece (encoding Cesu8) utf8 4 INVALID bytes.now result buf.old buf.new }
+{
+    Progress::of(cesu8_stream::decode_strict(bytes, buf), INVALID)
+}
+
+/// Decodes a piece of CESU-8 that may be damaged to UTF-8, as much as fits in the buffer, as
+/// `cesu8_stream::decode_lossy_strict` does. `is_last` says that no more bytes follow; otherwise a
+/// part of a character at the end is left for the next piece.
+#[unsafe(no_mangle)]
+pub extern "C" fn cesu8_stream_decode_lossy_strict(
+    bytes: &[u8],
+    buf: &mut [u8],
+    is_last: bool,
+) -> Progress
+    ensures { DecodesPiece (encoding Cesu8) (reading Cesu8) is_last bytes.now
+        result buf.old buf.new }
+{
+    Progress::of(
+        cesu8_stream::decode_lossy_strict(bytes, is_last, buf),
+        INVALID,
+    )
+}
+
+/// Encodes a piece of UTF-8 to CESU-8, as much as fits in the buffer, as `cesu8_stream::encode`
+/// does. `NOT_UTF8` means that the bytes from `read` on begin with no character of UTF-8, whatever
+/// follows them.
+#[unsafe(no_mangle)]
+pub extern "C" fn cesu8_stream_encode(text: &[u8], buf: &mut [u8]) -> Progress
+    ensures { ConvertsPiece utf8 (encoding Cesu8) 6 NOT_UTF8 text.now result buf.old buf.new }
+{
+    Progress::of(cesu8_stream::encode(text, buf), NOT_UTF8)
 }

@@ -1,11 +1,15 @@
 //! The calls for MUTF-8.
 
 ghost use Rattle.std.specs.Prelude.{◌≡◌};
-ghost use Rattle.simd_cesu8.specs.Encoding.{Mutf8};
+ghost use Rattle.simd_cesu8.specs.Text.{utf8};
+ghost use Rattle.simd_cesu8.specs.Encoding.{Mutf8, encoding};
 ghost use Rattle.simd_cesu8.specs.Reading.{IsStrictReading, IsLenientReading, reading, IsLenientLossyReading};
 ghost use Rattle.cesu8_static.specs.Answers.{DecidesNeed, TellsEncodedLength, TellsDecodedLength, TellsLossyLength, TellsValidFront, Encodes, Decodes, DecodesLossily};
+ghost use Rattle.cesu8_static.specs.Pieces.{ConvertsPiece, DecodesPiece};
 
 use crate::answer::{Answer, Decision, INVALID, NOT_UTF8, TOO_LONG};
+use crate::progress::Progress;
+use cesu8_stream::mutf8 as stream;
 use simd_cesu8::implementation::text_of;
 use simd_cesu8::mutf8;
 
@@ -114,4 +118,39 @@ pub extern "C" fn cesu8_mutf8_lossy_len(bytes: &[u8]) -> Answer
         Some(length) => Answer::of_length(length),
         None => Answer::without(TOO_LONG),
     }
+}
+
+/// Decodes a piece of MUTF-8 to UTF-8, as much as fits in the buffer, as
+/// `cesu8_stream::mutf8::decode_strict` does. `INVALID` means that the bytes from `read` on begin
+/// with no encoded character, whatever follows them.
+#[unsafe(no_mangle)]
+pub extern "C" fn cesu8_mutf8_stream_decode_strict(bytes: &[u8], buf: &mut [u8]) -> Progress
+    ensures { ConvertsPiece (encoding Mutf8) utf8 4 INVALID bytes.now result buf.old buf.new }
+{
+    Progress::of(stream::decode_strict(bytes, buf), INVALID)
+}
+
+/// Decodes a piece of MUTF-8 that may be damaged to UTF-8, as much as fits in the buffer, as
+/// `cesu8_stream::mutf8::decode_lossy_strict` does. `is_last` says that no more bytes follow;
+/// otherwise a part of a character at the end is left for the next piece.
+#[unsafe(no_mangle)]
+pub extern "C" fn cesu8_mutf8_stream_decode_lossy_strict(
+    bytes: &[u8],
+    buf: &mut [u8],
+    is_last: bool,
+) -> Progress
+    ensures { DecodesPiece (encoding Mutf8) (reading Mutf8) is_last bytes.now
+        result buf.old buf.new }
+{
+    Progress::of(stream::decode_lossy_strict(bytes, is_last, buf), INVALID)
+}
+
+/// Encodes a piece of UTF-8 to MUTF-8, as much as fits in the buffer, as
+/// `cesu8_stream::mutf8::encode` does. `NOT_UTF8` means that the bytes from `read` on begin with no
+/// character of UTF-8, whatever follows them.
+#[unsafe(no_mangle)]
+pub extern "C" fn cesu8_mutf8_stream_encode(text: &[u8], buf: &mut [u8]) -> Progress
+    ensures { ConvertsPiece utf8 (encoding Mutf8) 6 NOT_UTF8 text.now result buf.old buf.new }
+{
+    Progress::of(stream::encode(text, buf), NOT_UTF8)
 }

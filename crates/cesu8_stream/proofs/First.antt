@@ -131,3 +131,29 @@ none_of_six write bytes end sizes is none c b =
     let few = sizes.few c in
     let within : len ≤ length bytes = first_length write bytes c b in
     none len (sizes.some c) (omega arith) c (begins_front write bytes len c b (omega arith))
+
+-- If no character begins the first six bytes, none begins the bytes.
+pub none_of_first : (write : List ℕ → List ℕ) (bytes : List ℕ) (most : ℕ) → Sizes write → most ≡ min (length bytes) 6 →
+    (0 < length (take most bytes) → BeginsNone write (take most bytes)) → BeginsNone write bytes
+none_of_first write bytes most sizes is none c b =
+    let len = length (write (c ∷ [])) in
+    let some = sizes.some c in
+    let few = sizes.few c in
+    let within : len ≤ length bytes = first_length write bytes c b in
+    let enough : len ≤ most = omega arith in
+    none (grind (arith, common_steps)) c (begins_front write bytes most c b enough)
+
+-- The first character is no longer than the shortest text at the front of the bytes.
+pub first_within : (write : List ℕ → List ℕ) (bytes text : List ℕ) (n c : ℕ) → Appends write → write [] ≡ [] →
+    ((bs : List ℕ) (d e : ℕ) → Begins write bs d → Begins write bs e → d ≡ e) → 0 < n → n ≤ length bytes →
+    IsWritten write (take n bytes) text → Begins write bytes c → length (write (c ∷ [])) ≤ n
+first_within write bytes text n c append empty one some within written b =
+    let front = text_begins write (take n bytes) text append empty (grind (arith, common_steps)) written in
+    let whole : Begins write bytes front.0 =
+    subst (λ bs. Begins write bs front.0) (grind (arith, common_steps))
+    (begins_longer write (take n bytes) (drop n bytes) front.0 front.1) in
+    let same : length (write (c ∷ [])) ≡ length (write (front.0 ∷ [])) =
+    ap (λ x. length (write (x ∷ []))) (one bytes c front.0 b whole) in
+    let most : length (write (front.0 ∷ [])) ≤ length (take n bytes) = first_length write (take n bytes) front.0 front.1 in
+    let few : length (take n bytes) ≤ n = grind (arith, common_steps) in
+    omega arith

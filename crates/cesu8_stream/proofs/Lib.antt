@@ -7,5 +7,7 @@ pub mod First
 pub mod Utf8
 pub mod States
 pub mod Pieces
+pub mod Cuts
+pub mod LossyWindows
 pub mod LossyReadings
 pub mod InPieces

@@ -1,7 +1,7 @@
 -- Bytes that are a text, or that begin with a character, in some way of writing: CESU-8, MUTF-8 or
 -- UTF-8. A way of writing is a function from texts to bytes: `encoding Cesu8`, `encoding Mutf8` or
 -- `utf8`.
-use Rattle.std.specs.Prelude.{◌≡◌, ℕ, ◌<◌, ◌≢◌, List, [], ◌∷◌, ◌++◌, length, take}
+use Rattle.std.specs.Prelude.{◌≡◌, ℕ, ◌+◌, ◌<◌, ◌≤◌, ◌≢◌, List, [], ◌∷◌, ◌++◌, length, take, drop}
 use Rattle.simd_cesu8.specs.Text.{IsScalarValue, IsText}
 use Rattle.simd_cesu8.specs.Slices.{StandsAtFront}
 
@@ -42,3 +42,8 @@ BeginsLonger from to bytes len = (c : ℕ) × Begins from bytes c × (len < leng
 abbrev pub Converts : (List ℕ → List ℕ) → (List ℕ → List ℕ) → List ℕ → ℕ → ℕ → List ℕ → List ℕ → Type 0
 Converts from to bytes read written old new =
     (text : List ℕ) × IsWritten from (take read bytes) text × StandsAtFront (to text) written old new
+
+-- No character begins in the first bytes and ends in the others.
+abbrev pub NoneCrosses : (List ℕ → List ℕ) → List ℕ → List ℕ → Type 0
+NoneCrosses write first others =
+    (i c : ℕ) → i < length first → Begins write (drop i (first ++ others)) c → i + length (write (c ∷ [])) ≤ length first

@@ -115,14 +115,19 @@ fn convert_first<C: Conversion>(bytes: &[u8], buf: &mut [u8]) -> Moved
 }
 
 /// Returns the length of the first character, or 0 if none begins the input.
-fn first_len<C: Conversion>(bytes: &[u8]) -> usize
+pub fn first_len<C: Conversion>(bytes: &[u8]) -> usize
     ensures within { result ≤ length bytes.now }
     ensures valid { (text : List ℕ) × IsWritten C.from (take result bytes.now) text }
     ensures least { (n : ℕ) → 0 < n → n < result → BeginsNone C.from (take n bytes.now) }
     ensures none { result ≡ 0 → BeginsNone C.from bytes.now }
 {
     C::laws();
-    for len in 1..bytes.len().min(LONGEST) + 1 {
+    let most = bytes.len().min(LONGEST);
+    // A damaged byte, in one call in place of six.
+    if C::valid_up_to(&bytes[..most]) == 0 {
+        return 0;
+    }
+    for len in 1..most + 1 {
         let whole = C::valid_up_to(&bytes[..len]);
         if whole > 0 {
             return whole;

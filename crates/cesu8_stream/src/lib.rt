@@ -33,9 +33,11 @@ ghost use Rattle.cesu8_stream.specs.Lossy.{DecodesPiece};
 
 mod completion;
 mod conversion;
+mod cut;
 mod engine;
 pub mod laws;
 mod lossy;
+mod lossy_windows;
 pub mod mutf8;
 mod progress;
 mod text;

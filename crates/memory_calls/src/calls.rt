@@ -1,7 +1,7 @@
 //! The calls by their names, and the printing of their results.
 
 use crate::prints::{tell, tell_bytes, tell_length, yes_or_no};
-use crate::{faults, slices};
+use crate::{faults, slices, streams};
 use java_text::{ReadFault, WriteFault, read_utf, read_utf_lossy, write_utf};
 use simd_cesu8::implementation::{active, fallback, simd, text_of, word};
 use simd_cesu8::{CountedText, CowBytes, CowText, DecodeFault, laws};
@@ -39,6 +39,9 @@ fn make(rt: &HostRuntime, call: &str, bytes: &[u8]) -> io::Result<()> {
     };
     if let Some(call) = slices::Call::of(call, flavor, bytes) {
         return call.make(rt);
+    }
+    if let Some(printed) = streams::make(rt, call, flavor, bytes) {
+        return printed;
     }
     match call {
         "decode" => tell_text(rt, flavors::decode(rt.alloc(), flavor, bytes)),
@@ -178,6 +181,7 @@ fn use_laws() {
     java_text::laws::sequence();
     java_text::laws::in_turn();
     java_text::laws::bounds();
+    cesu8_stream::laws::in_pieces();
 }
 
 /// Appends to a buffer, if it could be allocated, and prints the buffer's bytes, also after an

@@ -7,7 +7,7 @@ use std::process::Abort;
 use std::test::Fail;
 
 /// A character in CESU-8, in MUTF-8 and in UTF-8.
-const CHARACTERS: [[&[u8]; 3]; 13] = [
+pub const CHARACTERS: [[&[u8]; 3]; 13] = [
     [b"\0", b"\xC0\x80", b"\0"],
     [b"a", b"a", b"a"],
     [b"\x7F", b"\x7F", b"\x7F"],
@@ -223,7 +223,7 @@ fn stops_at_malformed_bytes(rt: HostRuntime) -> Result<(), Fail> {
 }
 
 /// Damaged bytes of both encodings, and their lossy reading in UTF-8.
-const DAMAGED: [(&[u8], &str); 8] = [
+pub const DAMAGED: [(&[u8], &str); 8] = [
     (b"a\xFFb", "a\u{FFFD}b"),
     (b"\xE2\x82A", "\u{FFFD}\u{FFFD}A"),
     (b"\xED\xA0\xBD\xED\xB2\x96", "\u{1F496}"),
@@ -241,7 +241,7 @@ const DAMAGED: [(&[u8], &str); 8] = [
 ];
 
 /// Calls the lossy decoder of an encoding.
-fn decode_lossy(is_mutf8: bool, bytes: &[u8], is_last: bool, buf: &mut [u8]) -> Progress {
+pub fn decode_lossy(is_mutf8: bool, bytes: &[u8], is_last: bool, buf: &mut [u8]) -> Progress {
     if is_mutf8 {
         mutf8::decode_lossy_strict(bytes, is_last, buf)
     } else {

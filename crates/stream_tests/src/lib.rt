@@ -4,3 +4,5 @@
 
 #[cfg(test)]
 mod cuts;
+#[cfg(test)]
+mod windows;

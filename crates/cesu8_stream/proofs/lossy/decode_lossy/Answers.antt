@@ -1,27 +1,20 @@
 use borrow.Rule.Slice.PartMut.{put_mid}
 use Rattle.std.proofs.Common.{subst, ◌≡◌, ◌<◌, ◌+◌, ◌-◌, ◌∷◌, ◌++◌, length, take, drop, length-drop, arith, sym, ap, ◌∙◌, refl, true}
 use Rattle.std.proofs.lemmas.List.{take_rest, take-append-drop}
-use Rattle.simd_cesu8.specs.Text.{utf8}
-use Rattle.cesu8_stream.specs.Written.{Converts}
 use Rattle.cesu8_stream.specs.Streams.{ConvertsPiece}
 use Rattle.cesu8_stream.specs.Lossy.{ReadsOn, is_damage}
 use Rattle.cesu8_stream.proofs.Pieces.{to_end}
-use Rattle.cesu8_stream.proofs.LossyReadings.{IsReading, converted_on, read_on, replaced_on, never_follows, is_replaced, left_by, reads_by, stopped, filled, one_left, same_length}
+use Rattle.cesu8_stream.proofs.LossyWindows.{read_whatever}
+use Rattle.cesu8_stream.proofs.LossyReadings.{IsReading, read_on, replaced_on, never_follows, is_replaced, left_by, reads_by, stopped, filled, one_left, same_length}
 use Rattle.cesu8_stream.proofs.lossy.decode_lossy.Goals as goal
 
 pub loop-found-init : goal.loop-found-init
 loop-found-init g c =
-    let from = g.C.Conversion.from in
-    let reading = g.C.Decoding.reading in
-    let facts : IsReading from reading = record { text = c.lossy_laws.ensures.text; damage = c.lossy_laws.ensures.damage } in
-    let first = c.convert_window-first in
-    let moves = first.ensures.moves in
-    let converts : Converts from utf8 c.args.bytes.now first.result.read first.result.written c.args.buf.now first.new.buf =
-    (moves.0, moves.1, rw (c.lossy_laws.ensures.to_utf8 moves.0) at moves.2) in
+    let first = c.decode_windows-first in
     record {
       within = first.ensures.within;
-      reads = converted_on from reading c.args.is_last c.args.bytes.now c.args.buf.now first.new.buf first.result.read
-          first.result.written facts converts;
+      reads = read_whatever g.C.Decoding.reading c.args.is_last c.args.bytes.now c.args.buf.now first.new.buf first.result.read
+          first.result.written first.ensures.reads;
     }
 
 pub returns-then-not-is_damage : goal.returns-then-not-is_damage
@@ -48,7 +41,7 @@ returns-then-not-is_damage g c =
     (omega arith)
     (reads_by from to reading widest c.args.is_last bytes old buf new m w found facts c.lossy_laws.ensures.to_utf8
     c.loop-found.invariant.reads piece)
-    (left_by from to widest bytes old buf new m w found c.lossy_laws.ensures.to_utf8 (c.loop-found.auto.buf ∙ c.convert_window-first.auto.buf) piece)
+    (left_by from to widest bytes old buf new m w found c.lossy_laws.ensures.to_utf8 (c.loop-found.auto.buf ∙ c.decode_windows-first.auto.buf) piece)
     (λ s. let few = piece.few_left s in omega arith)
     (sym c.is_damage.ensures ∙ c.if-not-is_damage.true))
 
@@ -71,7 +64,7 @@ returns-then-not-put_replacement g c =
     let inside = piece.within in
     let here = c.loop-found.invariant.within in
     let left_length : length (drop m bytes) ≡ length bytes - m = length-drop m bytes in
-    let same : length buf ≡ length old = c.loop-found.auto.buf ∙ c.convert_window-first.auto.buf in
+    let same : length buf ≡ length old = c.loop-found.auto.buf ∙ c.decode_windows-first.auto.buf in
     let left = left_by from to widest bytes old buf new m w found c.lossy_laws.ensures.to_utf8 same piece in
     let reads = reads_by from to reading widest c.args.is_last bytes old buf new m w found facts c.lossy_laws.ensures.to_utf8
     c.loop-found.invariant.reads piece in
@@ -110,7 +103,7 @@ loop-found-preserved g c =
     let inside = piece.within in
     let here = c.loop-found.invariant.within in
     let left_length : length (drop m bytes) ≡ length bytes - m = length-drop m bytes in
-    let same : length buf ≡ length old = c.loop-found.auto.buf ∙ c.convert_window-first.auto.buf in
+    let same : length buf ≡ length old = c.loop-found.auto.buf ∙ c.decode_windows-first.auto.buf in
     let left = left_by from to widest bytes old buf new m w found c.lossy_laws.ensures.to_utf8 same piece in
     let reads = reads_by from to reading widest c.args.is_last bytes old buf new m w found facts c.lossy_laws.ensures.to_utf8
     c.loop-found.invariant.reads piece in

@@ -1,0 +1,41 @@
+-- What the lossy decoder reads by windows.
+use Rattle.std.proofs.Common.{◌≡◌, ℕ, List, [], ◌++◌, Bool, false, refl, sym, ap, ◌∙◌, take, drop, append_assoc}
+use Rattle.std.proofs.lemmas.List.{take-append-drop}
+use Rattle.simd_cesu8.specs.Text.{IsText, utf8}
+use Rattle.simd_cesu8.specs.Slices.{StandsAtFront}
+use Rattle.simd_cesu8.specs.Encoding.{Flavor, encoding}
+use Rattle.simd_cesu8.specs.Reading.{reading}
+use Rattle.simd_cesu8.specs.Laws.{Split}
+use Rattle.cesu8_stream.specs.Written.{NoneCrosses}
+use Rattle.cesu8_stream.specs.Lossy.{ReadsOn}
+
+-- The readings of two parts, if no character crosses from one to the other.
+pub parts_read : Split → (f : Flavor) (first others : List ℕ) → NoneCrosses (encoding f) first others →
+    reading f (first ++ others) ≡ reading f first ++ reading f others
+parts_read split f first others none =
+    (split f first others).1 (λ i c stands low.
+    none i c low (record { scalar = stands.1.scalar; rest = stands.0; bytes_are = stands.1.bytes_are }))
+
+-- A window was read.
+pub window_read : (reading : List ℕ → List ℕ) (bytes old new : List ℕ) (n w : ℕ) → IsText (reading (take n bytes)) →
+    ((more : List ℕ) →
+    reading (take n bytes ++ (drop n bytes ++ more)) ≡ reading (take n bytes) ++ reading (drop n bytes ++ more)) →
+    StandsAtFront (utf8 (reading (take n bytes))) w old new → ReadsOn reading false bytes n w old new
+window_read reading bytes old new n w is_text parts written = (
+  reading (take n bytes),
+  is_text,
+  written,
+  (λ more _.
+      ap reading (ap (λ bs. bs ++ more) (sym (take-append-drop n bytes)) ∙ append_assoc (take n bytes) (drop n bytes) more)
+      ∙ parts more),
+)
+
+-- Nothing was.
+pub nothing_read_on : (reading : List ℕ → List ℕ) (bytes old new : List ℕ) → new ≡ old → ReadsOn reading false bytes 0 0 old new
+nothing_read_on reading bytes old new same = ([], tt, (refl, same), (λ more _. refl))
+
+-- What is read whatever follows is read also if nothing follows.
+pub read_whatever : (reading : List ℕ → List ℕ) (is_last : Bool) (bytes old new : List ℕ) (n w : ℕ) →
+    ReadsOn reading false bytes n w old new → ReadsOn reading is_last bytes n w old new
+read_whatever reading is_last bytes old new n w reads =
+    (reads.0, reads.1, reads.2, (λ more _. reads.3 more (λ e. absurd (let h = e in cc))))
