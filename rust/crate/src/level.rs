@@ -75,7 +75,6 @@ macro_rules! calls_of {
             use super::*;
 
             chosen! { $module {
-                needs_encoded(text: &str) -> bool;
                 contains_changed(bytes: &[u8]) -> bool;
                 encoded_len(text: &str) -> usize;
                 encode(text: &str) -> Cow<'_, [u8]>;

@@ -1,6 +1,8 @@
 //! The fast path: up to 64 bytes are tested before a level is called, since most strings are short
 //! and need no conversion. It is inlined into the caller.
 
+use crate::SliceError;
+
 /// The most bytes that are tested.
 const SHORT: usize = 64;
 
@@ -21,6 +23,23 @@ pub(crate) fn ascii<const WITHOUT_NULL: bool>(bytes: &[u8]) -> Option<&str> {
     }
     // SAFETY: ASCII is UTF-8.
     Some(unsafe { core::str::from_utf8_unchecked(bytes) })
+}
+
+/// Copies the bytes to a slice if they are few and all ASCII. With `WITHOUT_NULL` no byte may be 00.
+/// It is not inlined, so that each call to a slice has no copy of it.
+#[inline(never)]
+pub(crate) fn copy_ascii<const WITHOUT_NULL: bool>(
+    bytes: &[u8],
+    buf: &mut [u8],
+) -> Option<Result<usize, SliceError>> {
+    ascii::<WITHOUT_NULL>(bytes).map(|text| copy(text.as_bytes(), buf))
+}
+
+/// Copies the bytes to a slice, if it has room for them.
+pub(crate) fn copy(bytes: &[u8], buf: &mut [u8]) -> Result<usize, SliceError> {
+    let needed = bytes.len();
+    buf.get_mut(..needed).ok_or(SliceError::TooShort { needed })?.copy_from_slice(bytes);
+    Ok(needed)
 }
 
 /// Returns whether a text is short, and no byte of it changes: none leads four bytes, or with

@@ -9,16 +9,19 @@ use core::cmp::Ordering;
 use core::marker::PhantomData;
 
 use super::bytes::flavor::{Cesu8Flavor, Flavor, Mutf8Flavor};
-use super::bytes::strictness::StrictReading;
+use super::bytes::lanes::class::{Either, FourByteLead};
+use super::bytes::lanes::search::any_in_bytes;
+use super::bytes::lengths;
+use super::bytes::strictness::{LossyReading, Reading, StrictReading};
 use super::bytes::utf8::{known_string, known_text};
-use super::calls::implementation::active;
-use super::calls::{self, CowBytes, CowText, DecodeSliceFault, LossySliceFault, TooShort, mutf8};
-use super::decode;
-use super::decode::accepts::{Accepts, EncodingAlone, Lenient, front_unless_kept};
+use super::calls::{self, TooShort, mutf8};
+use super::decode::accepts::{Accepts, EncodingAlone, Lenient, front_unless_kept, is_utf8};
 use super::decode::copy_or_write::decode_to_slice;
 use super::decode::front::{FoundFront, valid_up_to_other};
+use super::decode::refusal::Unwritten;
 use super::memory::{AllocError, Global};
-use crate::{DecodingError, SliceError};
+use super::{decode, encode};
+use crate::{DecodingError, SliceError, short};
 
 /// The length of a text fits no `usize`. Memory that is refused ends the process before.
 #[cold]
@@ -27,12 +30,49 @@ fn capacity_overflow() -> ! {
     panic!("capacity overflow")
 }
 
+/// Returns whether a byte is there that the encoding changes. Each call that needs this calls the one
+/// function, which is long.
 #[cfg_attr(not(debug_assertions), inline(always))]
-fn bytes_of(result: Result<CowBytes<'_>, AllocError>) -> Cow<'_, [u8]> {
-    match result {
-        Ok(CowBytes::Borrowed(bytes)) => Cow::Borrowed(bytes),
-        Ok(CowBytes::Owned(bytes)) => Cow::Owned(bytes),
+fn contains_changed<F: Flavor>(bytes: &[u8]) -> bool {
+    at_level! {
+        #[inline(never)] {
+            fn at_level<F: Flavor>(bytes: &[u8]) -> bool {
+                any_in_bytes::<Either<F::Null, FourByteLead>>(bytes)
+            }
+        } at_level::<F>(bytes)
+    }
+}
+
+/// Returns the length of the encoding of a text that changes. This too is one function.
+#[cfg_attr(not(debug_assertions), inline(always))]
+fn encoded_len<F: Flavor>(text: &str) -> usize {
+    at_level! {
+        #[inline(never)] {
+            fn at_level<F: Flavor>(text: &str) -> usize {
+                lengths::encoded_len::<F>(text)
+            }
+        } at_level::<F>(text)
+    }
+}
+
+#[cfg_attr(not(debug_assertions), inline(always))]
+fn encoded<F: Flavor>(text: &str) -> Cow<'_, [u8]> {
+    if !contains_changed::<F>(text.as_bytes()) {
+        return Cow::Borrowed(text.as_bytes());
+    }
+    match encode::encode::<F>(Global, text) {
+        Ok(bytes) => Cow::Owned(bytes),
         Err(AllocError) => capacity_overflow(),
+    }
+}
+
+#[cfg_attr(not(debug_assertions), inline(always))]
+fn encode_into<F: Flavor>(text: &str, buf: &mut Vec<u8>) {
+    if !contains_changed::<F>(text.as_bytes()) {
+        return buf.extend_from_slice(text.as_bytes());
+    }
+    if encode::encode_into::<F>(text, encoded_len::<F>(text), buf).is_err() {
+        capacity_overflow();
     }
 }
 
@@ -107,18 +147,24 @@ fn too_short(fault: TooShort) -> SliceError {
     SliceError::TooShort { needed: fault.needed() }
 }
 
-fn strict_fault(fault: DecodeSliceFault) -> SliceError {
-    match fault {
-        DecodeSliceFault::Invalid(_) => SliceError::Invalid,
-        DecodeSliceFault::TooShort(fault) => too_short(fault),
+/// Writes what a strict or lossy call returns, of bytes that are not short ASCII.
+#[cfg_attr(not(debug_assertions), inline(always))]
+fn other_to_slice<F: Flavor, S: Reading>(bytes: &[u8], buf: &mut [u8]) -> SliceResult {
+    match decode_to_slice::<F, Tested<EncodingAlone>, S>(bytes, buf) {
+        Ok(len) => Ok(len),
+        Err(Unwritten::NoText) => Err(SliceError::Invalid),
+        Err(Unwritten::TooLong) => Err(SliceError::TooLong),
+        Err(Unwritten::NoRoom(no_room)) => Err(SliceError::TooShort { needed: no_room.needed }),
     }
 }
 
-fn lossy_fault(fault: LossySliceFault) -> SliceError {
-    match fault {
-        LossySliceFault::TooLong => SliceError::TooLong,
-        LossySliceFault::TooShort(fault) => too_short(fault),
+/// The same for what is UTF-8 as a whole, or else the encoding.
+#[cfg_attr(not(debug_assertions), inline(always))]
+fn either_to_slice<F: Flavor, S: Reading>(bytes: &[u8], buf: &mut [u8]) -> SliceResult {
+    if is_utf8(bytes) {
+        return short::copy(bytes, buf);
     }
+    other_to_slice::<F, S>(bytes, buf)
 }
 
 type SliceResult = Result<usize, SliceError>;
@@ -136,17 +182,16 @@ macro_rules! at_this_level {
 
 /// Defines the calls of an encoding: `$calls` has those of the library, and `$flavor` is its type.
 macro_rules! calls_of {
-    ($module:ident, $calls:ident, $flavor:ident, $contains_changed:path) => {
+    ($module:ident, $calls:ident, $flavor:ident) => {
         pub mod $module {
             use super::*;
 
             at_this_level! {
-                needs_encoded(text: &str) -> bool = $calls::needs_encoded(text);
-                contains_changed(bytes: &[u8]) -> bool = $contains_changed(bytes);
-                encoded_len(text: &str) -> usize = $calls::encoded_len(text);
-                encode(text: &str) -> Cow<'_, [u8]> = bytes_of($calls::encode(Global, text));
+                contains_changed(bytes: &[u8]) -> bool = super::contains_changed::<$flavor>(bytes);
+                encoded_len(text: &str) -> usize = super::encoded_len::<$flavor>(text);
+                encode(text: &str) -> Cow<'_, [u8]> = encoded::<$flavor>(text);
                 encode_into(text: &str, buf: &mut Vec<u8>) -> () =
-                    $calls::encode_into(text, buf).unwrap_or_else(|_| capacity_overflow());
+                    super::encode_into::<$flavor>(text, buf);
                 decode_strict(bytes: &[u8]) -> Result<Cow<'_, str>, DecodingError> =
                     strict::<$flavor, EncodingAlone>(bytes);
                 decode(bytes: &[u8]) -> Result<Cow<'_, str>, DecodingError> =
@@ -161,20 +206,20 @@ macro_rules! calls_of {
                 encode_to_slice(text: &str, buf: &mut [u8]) -> SliceResult =
                     $calls::encode_to_slice(text, buf).map_err(too_short);
                 decode_strict_to_slice(bytes: &[u8], buf: &mut [u8]) -> SliceResult =
-                    $calls::decode_strict_to_slice(bytes, buf).map_err(strict_fault);
+                    other_to_slice::<$flavor, StrictReading>(bytes, buf);
                 decode_to_slice(bytes: &[u8], buf: &mut [u8]) -> SliceResult =
-                    $calls::decode_to_slice(bytes, buf).map_err(strict_fault);
+                    either_to_slice::<$flavor, StrictReading>(bytes, buf);
                 decode_lossy_strict_to_slice(bytes: &[u8], buf: &mut [u8]) -> SliceResult =
-                    $calls::decode_lossy_strict_to_slice(bytes, buf).map_err(lossy_fault);
+                    other_to_slice::<$flavor, LossyReading>(bytes, buf);
                 decode_lossy_to_slice(bytes: &[u8], buf: &mut [u8]) -> SliceResult =
-                    $calls::decode_lossy_to_slice(bytes, buf).map_err(lossy_fault);
+                    either_to_slice::<$flavor, LossyReading>(bytes, buf);
             }
         }
     };
 }
 
-calls_of!(of_cesu8, calls, Cesu8Flavor, active::contains_utf8_4_byte_char_header);
-calls_of!(of_mutf8, mutf8, Mutf8Flavor, active::contains_null_or_utf8_4_byte_char_header);
+calls_of!(of_cesu8, calls, Cesu8Flavor);
+calls_of!(of_mutf8, mutf8, Mutf8Flavor);
 
 at_this_level! {
     utf16_len(text: &str) -> usize = calls::utf16_len(text);
