@@ -368,7 +368,9 @@ class Eraser:
         while WORD.fullmatch(tokens[bracket]) and tokens[bracket + 1] == ".":
             bracket += 2
         bracket += 1
-        if not WORD.fullmatch(tokens[start]) or tokens[bracket] != "[":
+        # The rule on tables is for those, whose names are in capitals.
+        is_variable = WORD.fullmatch(tokens[start]) and not tokens[start].isupper()
+        if not is_variable or tokens[bracket] != "[":
             return None, None
         end = closing(tokens, bracket)
         if ".." not in tokens[bracket:end] or tokens[end + 1] in (".", "[", "?"):
@@ -561,7 +563,8 @@ class Eraser:
         """Returns what an inlined function is that passes no vector."""
         if "&mut" not in signature:
             return "reader"
-        return "loop" if "while" in body or "for" in body else "writer"
+        loops = [at for at, token in enumerate(body) if token in ("while", "for")]
+        return "loop" if loops and "return" not in body[:loops[0]] else "writer"
 
     # Both.
 

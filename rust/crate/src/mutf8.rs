@@ -257,10 +257,7 @@ pub fn decode_strict_to_slice(bytes: &[u8], buf: &mut [u8]) -> Result<usize, Sli
 /// string's length if the slice is shorter. The slice is then unchanged.
 #[inline]
 pub fn decode_to_slice(bytes: &[u8], buf: &mut [u8]) -> Result<usize, SliceError> {
-    if let Some(result) = short::copy_ascii::<false>(bytes, buf) {
-        return result;
-    }
-    level::of_mutf8::decode_to_slice(bytes, buf)
+    short::lenient_to_slice(bytes, buf, decode_strict_to_slice)
 }
 
 /// Decodes MUTF-8 as [`decode_lossy_strict`] does, and writes the string to a slice. It returns how
@@ -301,8 +298,6 @@ pub fn decode_lossy_strict_to_slice(bytes: &[u8], buf: &mut [u8]) -> Result<usiz
 /// [`SliceError::TooLong`] if that exceeds `usize`. The slice is then unchanged.
 #[inline]
 pub fn decode_lossy_to_slice(bytes: &[u8], buf: &mut [u8]) -> Result<usize, SliceError> {
-    if let Some(result) = short::copy_ascii::<false>(bytes, buf) {
-        return result;
-    }
-    level::of_mutf8::decode_lossy_to_slice(bytes, buf)
+    let lossy = level::of_mutf8::decode_lossy_strict_to_slice;
+    short::lenient_lossy_to_slice(bytes, buf, decode_strict_to_slice, lossy)
 }

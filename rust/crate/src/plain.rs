@@ -10,7 +10,7 @@ use alloc::string::String;
 use alloc::vec::Vec;
 use core::cmp::Ordering;
 
-use crate::{DecodingError, SliceError, short, utf8};
+use crate::{DecodingError, SliceError, utf8};
 
 // The functions take the encoding as an argument, so that a program has one copy of each. Those that
 // are not inlined would else be copied into the calls of both.
@@ -315,14 +315,6 @@ fn decode_strict_to_slice(
 }
 
 #[inline(never)]
-fn decode_to_slice(is_mutf8: bool, bytes: &[u8], buf: &mut [u8]) -> Result<usize, SliceError> {
-    match utf8::from_utf8(bytes) {
-        Some(text) => short::copy(text.as_bytes(), buf),
-        None => decode_strict_to_slice(is_mutf8, bytes, buf),
-    }
-}
-
-#[inline(never)]
 fn decode_lossy_strict_to_slice(
     is_mutf8: bool,
     bytes: &[u8],
@@ -330,18 +322,6 @@ fn decode_lossy_strict_to_slice(
 ) -> Result<usize, SliceError> {
     let needed = lossy_len(is_mutf8, bytes).ok_or(SliceError::TooLong)?;
     put_text(is_mutf8, bytes, needed, buf)
-}
-
-#[inline(never)]
-fn decode_lossy_to_slice(
-    is_mutf8: bool,
-    bytes: &[u8],
-    buf: &mut [u8],
-) -> Result<usize, SliceError> {
-    match utf8::from_utf8(bytes) {
-        Some(text) => short::copy(text.as_bytes(), buf),
-        None => decode_lossy_strict_to_slice(is_mutf8, bytes, buf),
-    }
 }
 
 /// Defines the calls of an encoding: each passes its arguments on.
@@ -375,12 +355,10 @@ macro_rules! calls_of {
                 valid_up_to(bytes: &[u8]) -> usize;
                 encode_to_slice(text: &str, buf: &mut [u8]) -> Result<usize, SliceError>;
                 decode_strict_to_slice(bytes: &[u8], buf: &mut [u8]) -> Result<usize, SliceError>;
-                decode_to_slice(bytes: &[u8], buf: &mut [u8]) -> Result<usize, SliceError>;
                 decode_lossy_strict_to_slice(
                     bytes: &[u8],
                     buf: &mut [u8]
                 ) -> Result<usize, SliceError>;
-                decode_lossy_to_slice(bytes: &[u8], buf: &mut [u8]) -> Result<usize, SliceError>;
             }
         }
     };

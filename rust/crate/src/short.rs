@@ -1,7 +1,7 @@
 //! The fast path: up to 64 bytes are tested before a level is called, since most strings are short
 //! and need no conversion. It is inlined into the caller.
 
-use crate::SliceError;
+use crate::{SliceError, utf8};
 
 /// The most bytes that are tested.
 const SHORT: usize = 64;
@@ -33,6 +33,32 @@ pub(crate) fn copy_ascii<const WITHOUT_NULL: bool>(
     buf: &mut [u8],
 ) -> Option<Result<usize, SliceError>> {
     ascii::<WITHOUT_NULL>(bytes).map(|text| copy(text.as_bytes(), buf))
+}
+
+/// Writes what a lenient call reads in the bytes: UTF-8 as it is, and else what `strict` writes. UTF-8
+/// that `strict` accepts is the text that it writes, so the test for UTF-8 may come after it.
+pub(crate) fn lenient_to_slice(
+    bytes: &[u8],
+    buf: &mut [u8],
+    strict: impl FnOnce(&[u8], &mut [u8]) -> Result<usize, SliceError>,
+) -> Result<usize, SliceError> {
+    match strict(bytes, buf) {
+        Err(SliceError::Invalid) if utf8::from_utf8(bytes).is_some() => copy(bytes, buf),
+        result => result,
+    }
+}
+
+/// The same for a call that replaces what is ill-formed: `lossy` writes what is neither.
+pub(crate) fn lenient_lossy_to_slice(
+    bytes: &[u8],
+    buf: &mut [u8],
+    strict: impl FnOnce(&[u8], &mut [u8]) -> Result<usize, SliceError>,
+    lossy: impl FnOnce(&[u8], &mut [u8]) -> Result<usize, SliceError>,
+) -> Result<usize, SliceError> {
+    match lenient_to_slice(bytes, buf, strict) {
+        Err(SliceError::Invalid) => lossy(bytes, buf),
+        result => result,
+    }
 }
 
 /// Copies the bytes to a slice, if it has room for them.

@@ -6,7 +6,6 @@
 use alloc::borrow::Cow;
 use alloc::vec::Vec;
 use core::cmp::Ordering;
-use core::marker::PhantomData;
 
 use super::bytes::flavor::{Cesu8Flavor, Flavor, Mutf8Flavor};
 use super::bytes::lanes::class::{Either, FourByteLead};
@@ -15,13 +14,14 @@ use super::bytes::lengths;
 use super::bytes::strictness::{LossyReading, Reading, StrictReading};
 use super::bytes::utf8::{known_string, known_text};
 use super::calls::{self, TooShort, mutf8};
-use super::decode::accepts::{Accepts, EncodingAlone, Lenient, front_unless_kept, is_utf8};
+use super::decode::accepts::{Accepts, EncodingAlone, Lenient, front_unless_kept};
 use super::decode::copy_or_write::decode_to_slice;
 use super::decode::front::{FoundFront, valid_up_to_other};
 use super::decode::refusal::Unwritten;
-use super::memory::{AllocError, Global};
+use super::kit::is_utf8_by_parts;
+use super::memory::{AllocError, Global, Part};
 use super::{decode, encode};
-use crate::{DecodingError, SliceError, short};
+use crate::{DecodingError, SliceError};
 
 /// The length of a text fits no `usize`. Memory that is refused ends the process before.
 #[cold]
@@ -79,10 +79,10 @@ fn encode_into<F: Flavor>(text: &str, buf: &mut Vec<u8>) {
 /// The most bytes that are decoded on the stack.
 const FEW: usize = 64;
 
-/// What `A` takes, of bytes that were tested for short ASCII before.
-struct Tested<A>(PhantomData<A>);
+/// The encoding alone, of bytes that were tested for short ASCII before.
+struct Tested;
 
-impl<A: Accepts> Accepts for Tested<A> {
+impl Accepts for Tested {
     #[cfg_attr(not(debug_assertions), inline(always))]
     fn is_short_kept<F: Flavor>(_: &[u8]) -> bool {
         false
@@ -90,23 +90,38 @@ impl<A: Accepts> Accepts for Tested<A> {
 
     #[cfg_attr(not(debug_assertions), inline(always))]
     fn front_of_other<F: Flavor>(bytes: &[u8]) -> FoundFront {
-        A::front_of_other::<F>(bytes)
+        EncodingAlone::front_of_other::<F>(bytes)
     }
 }
 
-/// Decodes strictly what a call that takes `A` takes. Input is rejected before memory is allocated.
+/// Returns `None` if a call that takes `A` borrows the bytes, or how many at the front are the same
+/// in UTF-8. With `LENIENT` it borrows all UTF-8: if that begins with a character that the encoding
+/// lacks, a test of what follows the front decides.
 #[cfg_attr(not(debug_assertions), inline(always))]
-fn strict<F: Flavor, A: Accepts>(bytes: &[u8]) -> Result<Cow<'_, str>, DecodingError> {
+fn front_unless_borrowed<F: Flavor, const LENIENT: bool>(bytes: &[u8]) -> Option<FoundFront> {
+    let front = front_unless_kept::<F, Tested>(bytes)?;
+    let rest = bytes.part(front.len..);
+    if LENIENT && matches!(rest, [0 | 0xF0..=0xF7, ..]) && is_utf8_by_parts(rest) {
+        return None;
+    }
+    Some(front)
+}
+
+/// Decodes strictly. Input is rejected before memory is allocated.
+#[cfg_attr(not(debug_assertions), inline(always))]
+fn strict<F: Flavor, A: Accepts, const LENIENT: bool>(
+    bytes: &[u8],
+) -> Result<Cow<'_, str>, DecodingError> {
     if bytes.len() <= FEW {
-        return strict_few::<F, Tested<A>>(bytes);
+        return strict_few::<F, LENIENT>(bytes);
     }
     if A::is_short_kept::<F>(bytes) {
         return Ok(Cow::Borrowed(known_text(bytes)));
     }
-    let Some(front) = front_unless_kept::<F, Tested<A>>(bytes) else {
+    let Some(front) = front_unless_borrowed::<F, LENIENT>(bytes) else {
         return Ok(Cow::Borrowed(known_text(bytes)));
     };
-    let rest = &bytes[front.len..];
+    let rest = bytes.part(front.len..);
     if valid_up_to_other::<F>(rest) < rest.len() {
         return Err(DecodingError(()));
     }
@@ -117,24 +132,25 @@ fn strict<F: Flavor, A: Accepts>(bytes: &[u8]) -> Result<Cow<'_, str>, DecodingE
 }
 
 /// The same, for at most 64 bytes. What changes gets shorter, so a text of the same length is the
-/// bytes.
+/// bytes. No UTF-8 changes in strict decoding, so the test for it may come last.
 #[cfg_attr(not(debug_assertions), inline(always))]
-fn strict_few<F: Flavor, A: Accepts>(bytes: &[u8]) -> Result<Cow<'_, str>, DecodingError> {
+fn strict_few<F: Flavor, const LENIENT: bool>(bytes: &[u8]) -> Result<Cow<'_, str>, DecodingError> {
     let mut text = [0; FEW];
-    match decode_to_slice::<F, A, StrictReading>(bytes, &mut text) {
+    match decode_to_slice::<F, Tested, StrictReading>(bytes, &mut text) {
         Ok(len) if len == bytes.len() => Ok(Cow::Borrowed(known_text(bytes))),
-        Ok(len) => Ok(Cow::Owned(known_string(text[..len].to_vec()))),
+        Ok(len) => Ok(Cow::Owned(known_string(text.part(..len).to_vec()))),
+        Err(_) if LENIENT && is_utf8_by_parts(bytes) => Ok(Cow::Borrowed(known_text(bytes))),
         Err(_) => Err(DecodingError(())),
     }
 }
 
-/// Decodes what a call that takes `A` takes, and replaces what is ill-formed.
+/// Decodes, and replaces what is ill-formed.
 #[cfg_attr(not(debug_assertions), inline(always))]
-fn lossy<F: Flavor, A: Accepts>(bytes: &[u8]) -> Cow<'_, str> {
+fn lossy<F: Flavor, A: Accepts, const LENIENT: bool>(bytes: &[u8]) -> Cow<'_, str> {
     if bytes.len() > FEW && A::is_short_kept::<F>(bytes) {
         return Cow::Borrowed(known_text(bytes));
     }
-    let Some(front) = front_unless_kept::<F, Tested<A>>(bytes) else {
+    let Some(front) = front_unless_borrowed::<F, LENIENT>(bytes) else {
         return Cow::Borrowed(known_text(bytes));
     };
     match decode::decode_lossy::<F>(Global, bytes, front) {
@@ -147,24 +163,15 @@ fn too_short(fault: TooShort) -> SliceError {
     SliceError::TooShort { needed: fault.needed() }
 }
 
-/// Writes what a strict or lossy call returns, of bytes that are not short ASCII.
+/// Writes the decoded text to a slice, of bytes that are not short ASCII.
 #[cfg_attr(not(debug_assertions), inline(always))]
-fn other_to_slice<F: Flavor, S: Reading>(bytes: &[u8], buf: &mut [u8]) -> SliceResult {
-    match decode_to_slice::<F, Tested<EncodingAlone>, S>(bytes, buf) {
+fn to_slice<F: Flavor, S: Reading>(bytes: &[u8], buf: &mut [u8]) -> SliceResult {
+    match decode_to_slice::<F, Tested, S>(bytes, buf) {
         Ok(len) => Ok(len),
         Err(Unwritten::NoText) => Err(SliceError::Invalid),
         Err(Unwritten::TooLong) => Err(SliceError::TooLong),
         Err(Unwritten::NoRoom(no_room)) => Err(SliceError::TooShort { needed: no_room.needed }),
     }
-}
-
-/// The same for what is UTF-8 as a whole, or else the encoding.
-#[cfg_attr(not(debug_assertions), inline(always))]
-fn either_to_slice<F: Flavor, S: Reading>(bytes: &[u8], buf: &mut [u8]) -> SliceResult {
-    if is_utf8(bytes) {
-        return short::copy(bytes, buf);
-    }
-    other_to_slice::<F, S>(bytes, buf)
 }
 
 type SliceResult = Result<usize, SliceError>;
@@ -193,26 +200,22 @@ macro_rules! calls_of {
                 encode_into(text: &str, buf: &mut Vec<u8>) -> () =
                     super::encode_into::<$flavor>(text, buf);
                 decode_strict(bytes: &[u8]) -> Result<Cow<'_, str>, DecodingError> =
-                    strict::<$flavor, EncodingAlone>(bytes);
+                    strict::<$flavor, EncodingAlone, false>(bytes);
                 decode(bytes: &[u8]) -> Result<Cow<'_, str>, DecodingError> =
-                    strict::<$flavor, Lenient>(bytes);
+                    strict::<$flavor, Lenient, true>(bytes);
                 decode_lossy_strict(bytes: &[u8]) -> Cow<'_, str> =
-                    lossy::<$flavor, EncodingAlone>(bytes);
+                    lossy::<$flavor, EncodingAlone, false>(bytes);
                 decode_lossy(bytes: &[u8]) -> Cow<'_, str> =
-                    lossy::<$flavor, Lenient>(bytes);
+                    lossy::<$flavor, Lenient, true>(bytes);
                 decoded_len(bytes: &[u8]) -> Option<usize> = $calls::decoded_len(bytes);
                 lossy_len(bytes: &[u8]) -> Option<usize> = $calls::lossy_len(bytes);
                 valid_up_to(bytes: &[u8]) -> usize = $calls::valid_up_to(bytes);
                 encode_to_slice(text: &str, buf: &mut [u8]) -> SliceResult =
                     $calls::encode_to_slice(text, buf).map_err(too_short);
                 decode_strict_to_slice(bytes: &[u8], buf: &mut [u8]) -> SliceResult =
-                    other_to_slice::<$flavor, StrictReading>(bytes, buf);
-                decode_to_slice(bytes: &[u8], buf: &mut [u8]) -> SliceResult =
-                    either_to_slice::<$flavor, StrictReading>(bytes, buf);
+                    to_slice::<$flavor, StrictReading>(bytes, buf);
                 decode_lossy_strict_to_slice(bytes: &[u8], buf: &mut [u8]) -> SliceResult =
-                    other_to_slice::<$flavor, LossyReading>(bytes, buf);
-                decode_lossy_to_slice(bytes: &[u8], buf: &mut [u8]) -> SliceResult =
-                    either_to_slice::<$flavor, LossyReading>(bytes, buf);
+                    to_slice::<$flavor, LossyReading>(bytes, buf);
             }
         }
     };
