@@ -55,7 +55,7 @@ RULES = {
     "level": "a function that is not inlined is compiled with the features of its level",
     "reader": "a level may leave to the compiler where what passes no vector is inlined",
     "writer": "the same, for a function that writes: a level may inline it and no reader",
-    "loop": "the same, for a function that writes in a loop, beside which a call takes little time",
+    "loop": "the same, for one that writes in a loop, without `return`: a call takes little beside it",
     "method": "a method is inlined, since it can't have a function with features in it",
     "inline": "without optimization, inlining everything takes minutes to compile",
 }
@@ -563,8 +563,8 @@ class Eraser:
         """Returns what an inlined function is that passes no vector."""
         if "&mut" not in signature:
             return "reader"
-        loops = [at for at, token in enumerate(body) if token in ("while", "for")]
-        return "loop" if loops and "return" not in body[:loops[0]] else "writer"
+        is_loop = "while" in body or "for" in body
+        return "loop" if is_loop and "return" not in body else "writer"
 
     # Both.
 
