@@ -48,12 +48,14 @@ RULES = {
     "vector width": "an item for vectors of any width says that the machine has that width",
     "constant lanes": "the positions of a shuffle are a constant for `rustc` too",
     "load at": "a load or store at an offset tests its bounds once, not a slice's and a vector's",
+    "part": "a range is in bounds, and a panic that tells where one is not is much code",
     "array by reference": "`rustc` takes an array of 16 bytes that it passes apart byte by byte",
     "as_chunks": "it came with Rust 1.88, and the crate is for 1.85",
     "table": "a constant that is only borrowed is a static, of which a program has one copy",
     "level": "a function that is not inlined is compiled with the features of its level",
     "reader": "a level may leave to the compiler where what passes no vector is inlined",
     "writer": "the same, for a function that writes: a level may inline it and no reader",
+    "loop": "the same, for one that writes in a loop, without `return`: a call takes little beside it",
     "method": "a method is inlined, since it can't have a function with features in it",
     "inline": "without optimization, inlining everything takes minutes to compile",
 }
@@ -333,6 +335,13 @@ class Eraser:
                 borrow = "&" if load else "&mut "
                 offset = inside(name + 2, end - 1)
                 return end + 2, f"{tokens[at]}_at({borrow}{tokens[name]}[..], {offset})"
+        if tokens[at] == "&":
+            return self.part(tokens, at, inside)
+        if re.match(r"\w+\[", rest):
+            end = closing(tokens, at + 1)
+            if ".." in tokens[at:end] and tokens[end + 1:end + 3] == [".", "copy_from_slice"]:
+                self.use("part")
+                return end + 1, f"{tokens[at]}.part_mut({inside(at + 2, end)})"
         if rest.startswith("from_array(*"):
             self.use("array by reference")
             return at + 3, "from_ref("
@@ -350,6 +359,25 @@ class Eraser:
         if re.match(r"\.(shuffle|swizzle)::<", rest):
             return self.shuffle(tokens, at, depth)
         return None, None
+
+    def part(self, tokens, at, inside):
+        """`&a.b[c..d]` is a call of the shim, if nothing is called of what is in the brackets."""
+        is_mutable = tokens[at + 1] == "mut"
+        start = at + 3 if is_mutable else at + 1
+        bracket = start
+        while WORD.fullmatch(tokens[bracket]) and tokens[bracket + 1] == ".":
+            bracket += 2
+        bracket += 1
+        # The rule on tables is for those, whose names are in capitals.
+        is_variable = WORD.fullmatch(tokens[start]) and not tokens[start].isupper()
+        if not is_variable or tokens[bracket] != "[":
+            return None, None
+        end = closing(tokens, bracket)
+        if ".." not in tokens[bracket:end] or tokens[end + 1] in (".", "[", "?"):
+            return None, None
+        self.use("part")
+        name = "part_mut" if is_mutable else "part"
+        return end + 1, f"{''.join(tokens[start:bracket])}.{name}({inside(bracket + 1, end)})"
 
     def append_loop(self, tokens, at):
         """`for a in b { out.push_reserved(*a); }`, or `for _ in 0..count` with one value."""
@@ -502,9 +530,9 @@ class Eraser:
         attribute = re.search(r"#\[inline(\(never\))?\]", head)
         hint = f"{attribute[0]} " if attribute else ""
         if always:
-            is_writer = "&mut" in signature
-            self.use("writer" if is_writer else "reader")
-            hint = "writer " if is_writer else "reader "
+            kind = self.kind(signature, tokens[body:end + 1])
+            self.use(kind)
+            hint = f"{kind} "
         elif attribute:
             head = head.replace(attribute[0], "#[inline(always)]")
         else:
@@ -529,6 +557,14 @@ class Eraser:
             f"\n        }} at_level{turbofish}({arguments})\n    }}\n}}",
         ]
         return end + 1
+
+    @staticmethod
+    def kind(signature, body):
+        """Returns what an inlined function is that passes no vector."""
+        if "&mut" not in signature:
+            return "reader"
+        is_loop = "while" in body or "for" in body
+        return "loop" if is_loop and "return" not in body else "writer"
 
     # Both.
 
@@ -603,6 +639,8 @@ class Eraser:
             self.use("prelude")
         if ".append_bytes(" in code or ".append_times(" in code:
             uses.append("super::" * depth + "memory::Append")
+        if ".part(" in code or ".part_mut(" in code:
+            uses.append("super::" * depth + "memory::Part")
         if "simd::*;" not in code:
             shim = {
                 "Width<": "Lanes, Width",

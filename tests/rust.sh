@@ -4,9 +4,10 @@
 #   debug assertions and overflow checks; the cases of tests/cli_cases.txt; allocations, types and
 #   borrowing; the examples of the documentation;
 # - the same calls beside the library for C of RELEASE, optimized;
-# - a build for x86-64-v3, one without std, and one with the feature simdutf8, over a crate of that
-#   name and API that stands in, since no registry is asked; rustc 1.85 if RUSTC_1_85 names it, as
-#   tests/rust_1_85.sh gets it;
+# - a build for x86-64-v3, one that leaves out v3, one without std, and one with the feature simdutf8,
+#   over a crate of that name and API that stands in, since no registry is asked;
+# - rustc 1.85 if RUSTC_1_85 names it, as tests/rust_1_85.sh gets it, and by it and its emulators arm64
+#   and i386;
 # - the levels under the address sanitizer, if rustup has a nightly compiler;
 # - programs as a user writes them, from the .crate files of RELEASE, offline: the dependency in one
 #   line, [patch.crates-io], panic = "abort", fat LTO, a static relocation model;
@@ -133,16 +134,49 @@ test_forms() {
         flags=''
     fi
     target=v3 RUSTFLAGS=$flags in_crate "${compared[@]}" || wrong 'the build for x86-64-v3'
+    target=v2 RUSTFLAGS='--cfg cesu8_level="v2"' in_crate test --lib -- level public_calls ||
+        wrong 'the build without v3'
     target=none in_crate check --no-default-features || wrong 'the build without std'
     target=simdutf8 in_crate test --features simdutf8 --test cases || wrong 'the feature simdutf8'
     target=plain RUSTFLAGS='--cfg cesu8_level="plain"' in_crate test --tests ||
         wrong 'the plain form'
-    if [[ -n ${RUSTC_1_85-} ]]; then
-        target=old RUSTC=$RUSTC_1_85 in_crate test --test cases || wrong 'rustc 1.85'
-    else
-        echo 'RUSTC_1_85 is not set: rustc 1.85 skipped'
-    fi
     pass
+}
+
+# Tests the crate for another processor, by rustc 1.85: `emulate ARCHITECTURE TARGET EMULATOR`. All
+# that is skipped is what takes an emulator long.
+emulate() {
+    local folder name=${2^^}
+    folder=$(dirname "$RUSTC_1_85")
+    name=CARGO_TARGET_${name//-/_}
+    if ! command -v ld.lld >/dev/null || [[ ! -x $folder/link-$1 || ! -x $folder/usr/bin/$3 ]]; then
+        echo "ld.lld, or $folder/link-$1 and $3, are missing: the Rust crate for $1 skipped"
+        return
+    fi
+    if (
+        export "${name}_LINKER=$folder/link-$1" "${name}_RUSTFLAGS=-C linker-flavor=ld"
+        export "${name}_RUNNER=$folder/usr/bin/$3 -L $folder" RUSTC=$RUSTC_1_85
+        export CARGO_PROFILE_TEST_OPT_LEVEL=1
+        target=$1 in_crate test --target "$2" --tests -- --skip fast_path
+    ); then
+        pass
+    else
+        wrong "the crate for $1"
+    fi
+}
+
+test_old_compiler() {
+    if [[ -z ${RUSTC_1_85-} ]]; then
+        echo 'RUSTC_1_85 is not set: rustc 1.85, arm64 and i386 skipped'
+        return
+    fi
+    if target=old RUSTC=$RUSTC_1_85 in_crate test --test cases; then
+        pass
+    else
+        wrong 'rustc 1.85'
+    fi
+    emulate arm64 aarch64-unknown-linux-gnu qemu-aarch64-static
+    emulate i386 i686-unknown-linux-gnu qemu-i386-static
 }
 
 # The sanitizer sees what the shim reads and writes, at each level.
@@ -227,6 +261,7 @@ fi
 test_eraser
 test_levels
 test_forms
+test_old_compiler
 test_addresses
 test_users
 look_at_style

@@ -75,7 +75,6 @@ macro_rules! calls_of {
             use super::*;
 
             chosen! { $module {
-                needs_encoded(text: &str) -> bool;
                 contains_changed(bytes: &[u8]) -> bool;
                 encoded_len(text: &str) -> usize;
                 encode(text: &str) -> Cow<'_, [u8]>;
@@ -89,9 +88,7 @@ macro_rules! calls_of {
                 valid_up_to(bytes: &[u8]) -> usize;
                 encode_to_slice(text: &str, buf: &mut [u8]) -> SliceResult;
                 decode_strict_to_slice(bytes: &[u8], buf: &mut [u8]) -> SliceResult;
-                decode_to_slice(bytes: &[u8], buf: &mut [u8]) -> SliceResult;
                 decode_lossy_strict_to_slice(bytes: &[u8], buf: &mut [u8]) -> SliceResult;
-                decode_lossy_to_slice(bytes: &[u8], buf: &mut [u8]) -> SliceResult;
             } }
         }
     };

@@ -56,7 +56,7 @@ pub use self::error::{DecodingError, SliceError};
 #[must_use]
 #[inline]
 pub fn needs_encoded(value: &str) -> bool {
-    !short::is_unchanged::<false>(value) && level::of_cesu8::needs_encoded(value)
+    !short::is_unchanged::<false>(value) && level::of_cesu8::contains_changed(value.as_bytes())
 }
 
 /// Encodes a string to CESU-8.
@@ -275,6 +275,9 @@ pub fn encode_to_slice(value: &str, buf: &mut [u8]) -> Result<usize, SliceError>
 /// the string's length if the slice is shorter. The slice is then unchanged.
 #[inline]
 pub fn decode_strict_to_slice(bytes: &[u8], buf: &mut [u8]) -> Result<usize, SliceError> {
+    if let Some(result) = short::copy_ascii::<false>(bytes, buf) {
+        return result;
+    }
     level::of_cesu8::decode_strict_to_slice(bytes, buf)
 }
 
@@ -294,7 +297,7 @@ pub fn decode_strict_to_slice(bytes: &[u8], buf: &mut [u8]) -> Result<usize, Sli
 /// string's length if the slice is shorter. The slice is then unchanged.
 #[inline]
 pub fn decode_to_slice(bytes: &[u8], buf: &mut [u8]) -> Result<usize, SliceError> {
-    level::of_cesu8::decode_to_slice(bytes, buf)
+    short::lenient_to_slice(bytes, buf, decode_strict_to_slice)
 }
 
 /// Decodes CESU-8 as [`decode_lossy_strict`] does, and writes the string to a slice. It returns how
@@ -313,6 +316,9 @@ pub fn decode_to_slice(bytes: &[u8], buf: &mut [u8]) -> Result<usize, SliceError
 /// [`SliceError::TooLong`] if that exceeds `usize`. The slice is then unchanged.
 #[inline]
 pub fn decode_lossy_strict_to_slice(bytes: &[u8], buf: &mut [u8]) -> Result<usize, SliceError> {
+    if let Some(result) = short::copy_ascii::<false>(bytes, buf) {
+        return result;
+    }
     level::of_cesu8::decode_lossy_strict_to_slice(bytes, buf)
 }
 
@@ -332,7 +338,8 @@ pub fn decode_lossy_strict_to_slice(bytes: &[u8], buf: &mut [u8]) -> Result<usiz
 /// [`SliceError::TooLong`] if that exceeds `usize`. The slice is then unchanged.
 #[inline]
 pub fn decode_lossy_to_slice(bytes: &[u8], buf: &mut [u8]) -> Result<usize, SliceError> {
-    level::of_cesu8::decode_lossy_to_slice(bytes, buf)
+    let lossy = level::of_cesu8::decode_lossy_strict_to_slice;
+    short::lenient_lossy_to_slice(bytes, buf, decode_strict_to_slice, lossy)
 }
 
 /// Returns how many UTF-16 code units a string has, as Java and JavaScript count its length.

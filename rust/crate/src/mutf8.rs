@@ -16,7 +16,7 @@ use crate::{DecodingError, SliceError, short};
 #[must_use]
 #[inline]
 pub fn needs_encoded(value: &str) -> bool {
-    !short::is_unchanged::<true>(value) && level::of_mutf8::needs_encoded(value)
+    !short::is_unchanged::<true>(value) && level::of_mutf8::contains_changed(value.as_bytes())
 }
 
 /// Encodes a string to MUTF-8.
@@ -235,6 +235,9 @@ pub fn encode_to_slice(value: &str, buf: &mut [u8]) -> Result<usize, SliceError>
 /// the string's length if the slice is shorter. The slice is then unchanged.
 #[inline]
 pub fn decode_strict_to_slice(bytes: &[u8], buf: &mut [u8]) -> Result<usize, SliceError> {
+    if let Some(result) = short::copy_ascii::<true>(bytes, buf) {
+        return result;
+    }
     level::of_mutf8::decode_strict_to_slice(bytes, buf)
 }
 
@@ -254,7 +257,7 @@ pub fn decode_strict_to_slice(bytes: &[u8], buf: &mut [u8]) -> Result<usize, Sli
 /// string's length if the slice is shorter. The slice is then unchanged.
 #[inline]
 pub fn decode_to_slice(bytes: &[u8], buf: &mut [u8]) -> Result<usize, SliceError> {
-    level::of_mutf8::decode_to_slice(bytes, buf)
+    short::lenient_to_slice(bytes, buf, decode_strict_to_slice)
 }
 
 /// Decodes MUTF-8 as [`decode_lossy_strict`] does, and writes the string to a slice. It returns how
@@ -273,6 +276,9 @@ pub fn decode_to_slice(bytes: &[u8], buf: &mut [u8]) -> Result<usize, SliceError
 /// [`SliceError::TooLong`] if that exceeds `usize`. The slice is then unchanged.
 #[inline]
 pub fn decode_lossy_strict_to_slice(bytes: &[u8], buf: &mut [u8]) -> Result<usize, SliceError> {
+    if let Some(result) = short::copy_ascii::<true>(bytes, buf) {
+        return result;
+    }
     level::of_mutf8::decode_lossy_strict_to_slice(bytes, buf)
 }
 
@@ -292,5 +298,6 @@ pub fn decode_lossy_strict_to_slice(bytes: &[u8], buf: &mut [u8]) -> Result<usiz
 /// [`SliceError::TooLong`] if that exceeds `usize`. The slice is then unchanged.
 #[inline]
 pub fn decode_lossy_to_slice(bytes: &[u8], buf: &mut [u8]) -> Result<usize, SliceError> {
-    level::of_mutf8::decode_lossy_to_slice(bytes, buf)
+    let lossy = level::of_mutf8::decode_lossy_strict_to_slice;
+    short::lenient_lossy_to_slice(bytes, buf, decode_strict_to_slice, lossy)
 }

@@ -10,8 +10,10 @@ use alloc::string::String;
 use alloc::vec::Vec;
 use core::cmp::Ordering;
 
-use crate::utf8;
-use crate::{DecodingError, SliceError};
+use crate::{DecodingError, SliceError, utf8};
+
+// The functions take the encoding as an argument, so that a program has one copy of each. Those that
+// are not inlined would else be copied into the calls of both.
 
 /// The bytes of a surrogate pair.
 const PAIR: usize = 6;
@@ -41,6 +43,7 @@ fn contains_changed(is_mutf8: bool, bytes: &[u8]) -> bool {
     first_changed(is_mutf8, bytes) < bytes.len()
 }
 
+#[inline(never)]
 fn encoded_len(is_mutf8: bool, text: &str) -> usize {
     let more = |byte: u8| 2 * usize::from(byte >= 0xF0) + usize::from(is_mutf8 && byte == 0);
     text.len() + text.bytes().map(more).sum::<usize>()
@@ -142,6 +145,7 @@ fn changed_at(is_mutf8: bool, bytes: &[u8]) -> Option<(char, usize)> {
     }
 }
 
+#[inline(never)]
 fn valid_up_to(is_mutf8: bool, bytes: &[u8]) -> usize {
     let mut len = 0;
     for piece in pieces(is_mutf8, bytes) {
@@ -157,6 +161,7 @@ fn valid_up_to(is_mutf8: bool, bytes: &[u8]) -> usize {
 
 /// Returns the length of the decoded text, with U+FFFD for each byte in no encoded character, if it
 /// fits.
+#[inline(never)]
 fn lossy_len(is_mutf8: bool, bytes: &[u8]) -> Option<usize> {
     let mut len = 0usize;
     for piece in pieces(is_mutf8, bytes) {
@@ -170,6 +175,7 @@ fn lossy_len(is_mutf8: bool, bytes: &[u8]) -> Option<usize> {
 }
 
 /// Returns the length of the decoded text, unless a byte is in no encoded character.
+#[inline(never)]
 fn decoded_len(is_mutf8: bool, bytes: &[u8]) -> Option<usize> {
     let mut len = 0;
     for piece in pieces(is_mutf8, bytes) {
@@ -203,13 +209,6 @@ fn build(is_mutf8: bool, bytes: &[u8], len: usize) -> String {
     text
 }
 
-/// Copies to the front of a slice.
-fn put(bytes: &[u8], buf: &mut [u8]) -> Result<usize, SliceError> {
-    let needed = bytes.len();
-    buf.get_mut(..needed).ok_or(SliceError::TooShort { needed })?.copy_from_slice(bytes);
-    Ok(needed)
-}
-
 /// Writes the decoded text, which has this length, to the front of a slice.
 fn put_text(
     is_mutf8: bool,
@@ -239,15 +238,102 @@ fn capacity_overflow() -> ! {
     panic!("capacity overflow")
 }
 
-/// Defines the calls of an encoding.
+#[inline(never)]
+fn encode(is_mutf8: bool, text: &str) -> Cow<'_, [u8]> {
+    if !contains_changed(is_mutf8, text.as_bytes()) {
+        return Cow::Borrowed(text.as_bytes());
+    }
+    let mut encoded = Vec::with_capacity(encoded_len(is_mutf8, text));
+    encode_by(is_mutf8, text, &mut |bytes| encoded.extend_from_slice(bytes));
+    Cow::Owned(encoded)
+}
+
+#[inline(never)]
+fn encode_into(is_mutf8: bool, text: &str, buf: &mut Vec<u8>) {
+    buf.reserve(encoded_len(is_mutf8, text));
+    encode_by(is_mutf8, text, &mut |bytes| buf.extend_from_slice(bytes));
+}
+
+#[inline(never)]
+fn encode_to_slice(is_mutf8: bool, text: &str, buf: &mut [u8]) -> Result<usize, SliceError> {
+    let needed = encoded_len(is_mutf8, text);
+    let out = buf.get_mut(..needed).ok_or(SliceError::TooShort { needed })?;
+    let mut end = 0;
+    encode_by(is_mutf8, text, &mut |bytes| {
+        out[end..end + bytes.len()].copy_from_slice(bytes);
+        end += bytes.len();
+    });
+    Ok(needed)
+}
+
+#[inline(never)]
+fn decode_strict(is_mutf8: bool, bytes: &[u8]) -> Result<Cow<'_, str>, DecodingError> {
+    if let Some(text) = same_text(is_mutf8, bytes) {
+        return Ok(Cow::Borrowed(text));
+    }
+    match decoded_len(is_mutf8, bytes) {
+        Some(len) => Ok(Cow::Owned(build(is_mutf8, bytes, len))),
+        None => Err(DecodingError(())),
+    }
+}
+
+#[inline(never)]
+fn decode(is_mutf8: bool, bytes: &[u8]) -> Result<Cow<'_, str>, DecodingError> {
+    match utf8::from_utf8(bytes) {
+        Some(text) => Ok(Cow::Borrowed(text)),
+        None => decode_strict(is_mutf8, bytes),
+    }
+}
+
+#[inline(never)]
+fn decode_lossy_strict(is_mutf8: bool, bytes: &[u8]) -> Cow<'_, str> {
+    if let Some(text) = same_text(is_mutf8, bytes) {
+        return Cow::Borrowed(text);
+    }
+    match lossy_len(is_mutf8, bytes) {
+        Some(len) => Cow::Owned(build(is_mutf8, bytes, len)),
+        None => capacity_overflow(),
+    }
+}
+
+#[inline(never)]
+fn decode_lossy(is_mutf8: bool, bytes: &[u8]) -> Cow<'_, str> {
+    match utf8::from_utf8(bytes) {
+        Some(text) => Cow::Borrowed(text),
+        None => decode_lossy_strict(is_mutf8, bytes),
+    }
+}
+
+#[inline(never)]
+fn decode_strict_to_slice(
+    is_mutf8: bool,
+    bytes: &[u8],
+    buf: &mut [u8],
+) -> Result<usize, SliceError> {
+    let needed = decoded_len(is_mutf8, bytes).ok_or(SliceError::Invalid)?;
+    put_text(is_mutf8, bytes, needed, buf)
+}
+
+#[inline(never)]
+fn decode_lossy_strict_to_slice(
+    is_mutf8: bool,
+    bytes: &[u8],
+    buf: &mut [u8],
+) -> Result<usize, SliceError> {
+    let needed = lossy_len(is_mutf8, bytes).ok_or(SliceError::TooLong)?;
+    put_text(is_mutf8, bytes, needed, buf)
+}
+
+/// Defines the calls of an encoding: each passes its arguments on.
 macro_rules! calls_of {
+    ($is_mutf8:literal $($name:ident($($argument:ident: $type:ty),*) -> $result:ty;)*) => {
+        $(pub fn $name($($argument: $type),*) -> $result {
+            super::$name($is_mutf8, $($argument),*)
+        })*
+    };
     ($module:ident, $is_mutf8:literal) => {
         pub mod $module {
             use super::*;
-
-            pub fn needs_encoded(text: &str) -> bool {
-                super::contains_changed($is_mutf8, text.as_bytes())
-            }
 
             /// Whether a byte leads four bytes, F0 to F7, or is 00 in MUTF-8. The bytes need not be
             /// UTF-8.
@@ -255,112 +341,24 @@ macro_rules! calls_of {
                 bytes.iter().any(|byte| (0xF0..=0xF7).contains(byte) || $is_mutf8 && *byte == 0)
             }
 
-            pub fn encoded_len(text: &str) -> usize {
-                super::encoded_len($is_mutf8, text)
-            }
-
-            pub fn encode(text: &str) -> Cow<'_, [u8]> {
-                if !needs_encoded(text) {
-                    return Cow::Borrowed(text.as_bytes());
-                }
-                let mut encoded = Vec::with_capacity(encoded_len(text));
-                encode_by($is_mutf8, text, &mut |bytes| encoded.extend_from_slice(bytes));
-                Cow::Owned(encoded)
-            }
-
-            pub fn encode_into(text: &str, buf: &mut Vec<u8>) {
-                buf.reserve(encoded_len(text));
-                encode_by($is_mutf8, text, &mut |bytes| buf.extend_from_slice(bytes));
-            }
-
-            pub fn decode_strict(bytes: &[u8]) -> Result<Cow<'_, str>, DecodingError> {
-                if let Some(text) = same_text($is_mutf8, bytes) {
-                    return Ok(Cow::Borrowed(text));
-                }
-                match super::decoded_len($is_mutf8, bytes) {
-                    Some(len) => Ok(Cow::Owned(build($is_mutf8, bytes, len))),
-                    None => Err(DecodingError(())),
-                }
-            }
-
-            pub fn decode(bytes: &[u8]) -> Result<Cow<'_, str>, DecodingError> {
-                match utf8::from_utf8(bytes) {
-                    Some(text) => Ok(Cow::Borrowed(text)),
-                    None => decode_strict(bytes),
-                }
-            }
-
-            pub fn decode_lossy_strict(bytes: &[u8]) -> Cow<'_, str> {
-                if let Some(text) = same_text($is_mutf8, bytes) {
-                    return Cow::Borrowed(text);
-                }
-                match super::lossy_len($is_mutf8, bytes) {
-                    Some(len) => Cow::Owned(build($is_mutf8, bytes, len)),
-                    None => capacity_overflow(),
-                }
-            }
-
-            pub fn decode_lossy(bytes: &[u8]) -> Cow<'_, str> {
-                match utf8::from_utf8(bytes) {
-                    Some(text) => Cow::Borrowed(text),
-                    None => decode_lossy_strict(bytes),
-                }
-            }
-
-            pub fn decoded_len(bytes: &[u8]) -> Option<usize> {
-                super::decoded_len($is_mutf8, bytes)
-            }
-
-            pub fn lossy_len(bytes: &[u8]) -> Option<usize> {
-                super::lossy_len($is_mutf8, bytes)
-            }
-
-            pub fn valid_up_to(bytes: &[u8]) -> usize {
-                super::valid_up_to($is_mutf8, bytes)
-            }
-
-            pub fn encode_to_slice(text: &str, buf: &mut [u8]) -> Result<usize, SliceError> {
-                let needed = encoded_len(text);
-                let out = buf.get_mut(..needed).ok_or(SliceError::TooShort { needed })?;
-                let mut end = 0;
-                encode_by($is_mutf8, text, &mut |bytes| {
-                    out[end..end + bytes.len()].copy_from_slice(bytes);
-                    end += bytes.len();
-                });
-                Ok(needed)
-            }
-
-            pub fn decode_strict_to_slice(
-                bytes: &[u8],
-                buf: &mut [u8],
-            ) -> Result<usize, SliceError> {
-                let needed = decoded_len(bytes).ok_or(SliceError::Invalid)?;
-                put_text($is_mutf8, bytes, needed, buf)
-            }
-
-            pub fn decode_to_slice(bytes: &[u8], buf: &mut [u8]) -> Result<usize, SliceError> {
-                match utf8::from_utf8(bytes) {
-                    Some(text) => put(text.as_bytes(), buf),
-                    None => decode_strict_to_slice(bytes, buf),
-                }
-            }
-
-            pub fn decode_lossy_strict_to_slice(
-                bytes: &[u8],
-                buf: &mut [u8],
-            ) -> Result<usize, SliceError> {
-                let needed = lossy_len(bytes).ok_or(SliceError::TooLong)?;
-                put_text($is_mutf8, bytes, needed, buf)
-            }
-
-            pub fn decode_lossy_to_slice(
-                bytes: &[u8],
-                buf: &mut [u8],
-            ) -> Result<usize, SliceError> {
-                match utf8::from_utf8(bytes) {
-                    Some(text) => put(text.as_bytes(), buf),
-                    None => decode_lossy_strict_to_slice(bytes, buf),
-                }
+            calls_of! {
+                $is_mutf8
+                encoded_len(text: &str) -> usize;
+                encode(text: &str) -> Cow<'_, [u8]>;
+                encode_into(text: &str, buf: &mut Vec<u8>) -> ();
+                decode_strict(bytes: &[u8]) -> Result<Cow<'_, str>, DecodingError>;
+                decode(bytes: &[u8]) -> Result<Cow<'_, str>, DecodingError>;
+                decode_lossy_strict(bytes: &[u8]) -> Cow<'_, str>;
+                decode_lossy(bytes: &[u8]) -> Cow<'_, str>;
+                decoded_len(bytes: &[u8]) -> Option<usize>;
+                lossy_len(bytes: &[u8]) -> Option<usize>;
+                valid_up_to(bytes: &[u8]) -> usize;
+                encode_to_slice(text: &str, buf: &mut [u8]) -> Result<usize, SliceError>;
+                decode_strict_to_slice(bytes: &[u8], buf: &mut [u8]) -> Result<usize, SliceError>;
+                decode_lossy_strict_to_slice(
+                    bytes: &[u8],
+                    buf: &mut [u8]
+                ) -> Result<usize, SliceError>;
             }
         }
     };

@@ -1,6 +1,8 @@
 //! The fast path: up to 64 bytes are tested before a level is called, since most strings are short
 //! and need no conversion. It is inlined into the caller.
 
+use crate::{SliceError, utf8};
+
 /// The most bytes that are tested.
 const SHORT: usize = 64;
 
@@ -21,6 +23,49 @@ pub(crate) fn ascii<const WITHOUT_NULL: bool>(bytes: &[u8]) -> Option<&str> {
     }
     // SAFETY: ASCII is UTF-8.
     Some(unsafe { core::str::from_utf8_unchecked(bytes) })
+}
+
+/// Copies the bytes to a slice if they are few and all ASCII. With `WITHOUT_NULL` no byte may be 00.
+/// It is not inlined, so that each call to a slice has no copy of it.
+#[inline(never)]
+pub(crate) fn copy_ascii<const WITHOUT_NULL: bool>(
+    bytes: &[u8],
+    buf: &mut [u8],
+) -> Option<Result<usize, SliceError>> {
+    ascii::<WITHOUT_NULL>(bytes).map(|text| copy(text.as_bytes(), buf))
+}
+
+/// Writes what a lenient call reads in the bytes: UTF-8 as it is, and else what `strict` writes. UTF-8
+/// that `strict` accepts is the text that it writes, so the test for UTF-8 may come after it.
+pub(crate) fn lenient_to_slice(
+    bytes: &[u8],
+    buf: &mut [u8],
+    strict: impl FnOnce(&[u8], &mut [u8]) -> Result<usize, SliceError>,
+) -> Result<usize, SliceError> {
+    match strict(bytes, buf) {
+        Err(SliceError::Invalid) if utf8::from_utf8(bytes).is_some() => copy(bytes, buf),
+        result => result,
+    }
+}
+
+/// The same for a call that replaces what is ill-formed: `lossy` writes what is neither.
+pub(crate) fn lenient_lossy_to_slice(
+    bytes: &[u8],
+    buf: &mut [u8],
+    strict: impl FnOnce(&[u8], &mut [u8]) -> Result<usize, SliceError>,
+    lossy: impl FnOnce(&[u8], &mut [u8]) -> Result<usize, SliceError>,
+) -> Result<usize, SliceError> {
+    match lenient_to_slice(bytes, buf, strict) {
+        Err(SliceError::Invalid) => lossy(bytes, buf),
+        result => result,
+    }
+}
+
+/// Copies the bytes to a slice, if it has room for them.
+pub(crate) fn copy(bytes: &[u8], buf: &mut [u8]) -> Result<usize, SliceError> {
+    let needed = bytes.len();
+    buf.get_mut(..needed).ok_or(SliceError::TooShort { needed })?.copy_from_slice(bytes);
+    Ok(needed)
 }
 
 /// Returns whether a text is short, and no byte of it changes: none leads four bytes, or with

@@ -373,11 +373,54 @@ macro_rules! test_encoding {
     }};
 }
 
+/// The functions of an encoding at a level, and the calls that are made of them.
+macro_rules! level_calls {
+    ($module:ident, $($calls:ident)::*) => {
+        #[allow(unused_unsafe)]
+        mod $module {
+            pub use $($calls)::*::*;
+            use crate::{SliceError, short};
+
+            type SliceResult = Result<usize, SliceError>;
+
+            unsafe fn strict(bytes: &[u8], buf: &mut [u8]) -> SliceResult {
+                // SAFETY: the processor has the level's features.
+                unsafe { decode_strict_to_slice(bytes, buf) }
+            }
+
+            unsafe fn lossy(bytes: &[u8], buf: &mut [u8]) -> SliceResult {
+                // SAFETY: the processor has the level's features.
+                unsafe { decode_lossy_strict_to_slice(bytes, buf) }
+            }
+
+            pub unsafe fn decode_to_slice(bytes: &[u8], buf: &mut [u8]) -> SliceResult {
+                // SAFETY: the processor has the level's features.
+                short::lenient_to_slice(bytes, buf, |bytes, buf| unsafe { strict(bytes, buf) })
+            }
+
+            pub unsafe fn decode_lossy_to_slice(bytes: &[u8], buf: &mut [u8]) -> SliceResult {
+                // SAFETY: the processor has the level's features.
+                let strict = |bytes: &[u8], buf: &mut [u8]| unsafe { strict(bytes, buf) };
+                // SAFETY: as above.
+                let lossy = |bytes: &[u8], buf: &mut [u8]| unsafe { lossy(bytes, buf) };
+                short::lenient_lossy_to_slice(bytes, buf, strict, lossy)
+            }
+
+            pub unsafe fn needs_encoded(text: &str) -> bool {
+                // SAFETY: the processor has the level's features.
+                unsafe { contains_changed(text.as_bytes()) }
+            }
+        }
+    };
+}
+
 /// Tests a level: `$surface` has its functions.
 macro_rules! test_level {
     ($name:ident, $is_there:expr, $($surface:ident)::*) => {
         #[test]
         fn $name() {
+            level_calls!(of_cesu8, $($surface)::*::of_cesu8);
+            level_calls!(of_mutf8, $($surface)::*::of_mutf8);
             if !$is_there {
                 println!("not tested: this processor is below the level");
                 return;
@@ -390,8 +433,8 @@ macro_rules! test_level {
                 // SAFETY: the processor has the level's features.
                 #[allow(unused_unsafe)]
                 unsafe {
-                    test_encoding!($($surface)::*::of_cesu8, false, &bytes);
-                    test_encoding!($($surface)::*::of_mutf8, true, &bytes);
+                    test_encoding!(of_cesu8, false, &bytes);
+                    test_encoding!(of_mutf8, true, &bytes);
                 }
                 if let Ok(text) = core::str::from_utf8(&bytes) {
                     use $($surface)::* as calls;
@@ -427,6 +470,21 @@ test_level!(v3, is_x86_feature_detected!("avx2"), crate::level::x86::v3::surface
     not(any(miri, cesu8_level = "plain"))
 ))]
 test_level!(neon, true, crate::level::aarch64::neon::surface);
+
+/// A processor has the highest level that the build has and whose instructions it has.
+#[cfg(all(target_arch = "x86_64", feature = "std", not(any(miri, cesu8_level = "plain"))))]
+#[test]
+fn level() {
+    use crate::level::x86::{Level, detected};
+
+    let may_have_v3 = is_x86_feature_detected!("avx2") && cfg!(not(cesu8_level = "v2"));
+    match detected() {
+        #[cfg(not(cesu8_level = "v2"))]
+        Level::V3 => assert!(may_have_v3),
+        Level::V2 => assert!(!may_have_v3 && is_x86_feature_detected!("sse4.2")),
+        Level::Plain => assert!(!is_x86_feature_detected!("sse4.2")),
+    }
+}
 
 /// The public calls, with their fast path, of every short input of a few bytes at each offset of
 /// ASCII.

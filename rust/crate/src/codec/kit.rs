@@ -1,7 +1,7 @@
 //! What the codec uses of Rattle's kit: the test for UTF-8.
 
 /// Returns whether the bytes are UTF-8.
-#[cfg_attr(not(debug_assertions), inline(always))]
+#[inline(never)]
 pub fn is_utf8_by_parts(bytes: &[u8]) -> bool {
     crate::utf8::from_utf8(bytes).is_some()
 }

@@ -3,6 +3,7 @@
 //! collection of Rust.
 
 use alloc::vec::Vec;
+use core::slice::SliceIndex;
 
 /// The allocator.
 #[derive(Clone, Copy, Debug)]
@@ -17,8 +18,9 @@ pub struct AllocError;
 #[derive(Clone, Copy, Debug)]
 pub struct AllocFailed<T>(pub T);
 
-/// Returns an empty vector, after one request for this capacity.
-#[cfg_attr(not(debug_assertions), inline(always))]
+/// Returns an empty vector, after one request for this capacity. The code is long, so it is not
+/// inlined.
+#[inline(never)]
 pub fn with_capacity(_: Global, capacity: usize) -> Result<Vec<u8>, AllocError> {
     Ok(Vec::with_capacity(capacity))
 }
@@ -70,6 +72,37 @@ impl Append for Vec<u8> {
         unsafe {
             self.as_mut_ptr().add(len).write_bytes(byte, count);
             self.set_len(len + count);
+        }
+    }
+}
+
+#[cold]
+#[inline(never)]
+fn out_of_bounds() -> ! {
+    panic!("a range exceeds its slice")
+}
+
+/// The part of a slice in a range, which a proof has shown to be in bounds. The index operator would
+/// have, for each use in a program, a place in the source and what tells of the range.
+pub trait Part {
+    fn part<R: SliceIndex<[u8], Output = [u8]>>(&self, range: R) -> &[u8];
+    fn part_mut<R: SliceIndex<[u8], Output = [u8]>>(&mut self, range: R) -> &mut [u8];
+}
+
+impl Part for [u8] {
+    #[cfg_attr(not(debug_assertions), inline(always))]
+    fn part<R: SliceIndex<[u8], Output = [u8]>>(&self, range: R) -> &[u8] {
+        match self.get(range) {
+            Some(part) => part,
+            None => out_of_bounds(),
+        }
+    }
+
+    #[cfg_attr(not(debug_assertions), inline(always))]
+    fn part_mut<R: SliceIndex<[u8], Output = [u8]>>(&mut self, range: R) -> &mut [u8] {
+        match self.get_mut(range) {
+            Some(part) => part,
+            None => out_of_bounds(),
         }
     }
 }

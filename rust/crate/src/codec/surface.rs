@@ -6,18 +6,21 @@
 use alloc::borrow::Cow;
 use alloc::vec::Vec;
 use core::cmp::Ordering;
-use core::marker::PhantomData;
 
 use super::bytes::flavor::{Cesu8Flavor, Flavor, Mutf8Flavor};
-use super::bytes::strictness::StrictReading;
+use super::bytes::lanes::class::{Either, FourByteLead};
+use super::bytes::lanes::search::any_in_bytes;
+use super::bytes::lengths;
+use super::bytes::strictness::{LossyReading, Reading, StrictReading};
 use super::bytes::utf8::{known_string, known_text};
-use super::calls::implementation::active;
-use super::calls::{self, CowBytes, CowText, DecodeSliceFault, LossySliceFault, TooShort, mutf8};
-use super::decode;
+use super::calls::{self, TooShort, mutf8};
 use super::decode::accepts::{Accepts, EncodingAlone, Lenient, front_unless_kept};
 use super::decode::copy_or_write::decode_to_slice;
 use super::decode::front::{FoundFront, valid_up_to_other};
-use super::memory::{AllocError, Global};
+use super::decode::refusal::Unwritten;
+use super::kit::is_utf8_by_parts;
+use super::memory::{AllocError, Global, Part};
+use super::{decode, encode};
 use crate::{DecodingError, SliceError};
 
 /// The length of a text fits no `usize`. Memory that is refused ends the process before.
@@ -27,22 +30,59 @@ fn capacity_overflow() -> ! {
     panic!("capacity overflow")
 }
 
+/// Returns whether a byte is there that the encoding changes. Each call that needs this calls the one
+/// function, which is long.
 #[cfg_attr(not(debug_assertions), inline(always))]
-fn bytes_of(result: Result<CowBytes<'_>, AllocError>) -> Cow<'_, [u8]> {
-    match result {
-        Ok(CowBytes::Borrowed(bytes)) => Cow::Borrowed(bytes),
-        Ok(CowBytes::Owned(bytes)) => Cow::Owned(bytes),
+fn contains_changed<F: Flavor>(bytes: &[u8]) -> bool {
+    at_level! {
+        #[inline(never)] {
+            fn at_level<F: Flavor>(bytes: &[u8]) -> bool {
+                any_in_bytes::<Either<F::Null, FourByteLead>>(bytes)
+            }
+        } at_level::<F>(bytes)
+    }
+}
+
+/// Returns the length of the encoding of a text that changes. This too is one function.
+#[cfg_attr(not(debug_assertions), inline(always))]
+fn encoded_len<F: Flavor>(text: &str) -> usize {
+    at_level! {
+        #[inline(never)] {
+            fn at_level<F: Flavor>(text: &str) -> usize {
+                lengths::encoded_len::<F>(text)
+            }
+        } at_level::<F>(text)
+    }
+}
+
+#[cfg_attr(not(debug_assertions), inline(always))]
+fn encoded<F: Flavor>(text: &str) -> Cow<'_, [u8]> {
+    if !contains_changed::<F>(text.as_bytes()) {
+        return Cow::Borrowed(text.as_bytes());
+    }
+    match encode::encode::<F>(Global, text) {
+        Ok(bytes) => Cow::Owned(bytes),
         Err(AllocError) => capacity_overflow(),
+    }
+}
+
+#[cfg_attr(not(debug_assertions), inline(always))]
+fn encode_into<F: Flavor>(text: &str, buf: &mut Vec<u8>) {
+    if !contains_changed::<F>(text.as_bytes()) {
+        return buf.extend_from_slice(text.as_bytes());
+    }
+    if encode::encode_into::<F>(text, encoded_len::<F>(text), buf).is_err() {
+        capacity_overflow();
     }
 }
 
 /// The most bytes that are decoded on the stack.
 const FEW: usize = 64;
 
-/// What `A` takes, of bytes that were tested for short ASCII before.
-struct Tested<A>(PhantomData<A>);
+/// The encoding alone, of bytes that were tested for short ASCII before.
+struct Tested;
 
-impl<A: Accepts> Accepts for Tested<A> {
+impl Accepts for Tested {
     #[cfg_attr(not(debug_assertions), inline(always))]
     fn is_short_kept<F: Flavor>(_: &[u8]) -> bool {
         false
@@ -50,23 +90,38 @@ impl<A: Accepts> Accepts for Tested<A> {
 
     #[cfg_attr(not(debug_assertions), inline(always))]
     fn front_of_other<F: Flavor>(bytes: &[u8]) -> FoundFront {
-        A::front_of_other::<F>(bytes)
+        EncodingAlone::front_of_other::<F>(bytes)
     }
 }
 
-/// Decodes strictly what a call that takes `A` takes. Input is rejected before memory is allocated.
+/// Returns `None` if a call that takes `A` borrows the bytes, or how many at the front are the same
+/// in UTF-8. With `LENIENT` it borrows all UTF-8: if that begins with a character that the encoding
+/// lacks, a test of what follows the front decides.
 #[cfg_attr(not(debug_assertions), inline(always))]
-fn strict<F: Flavor, A: Accepts>(bytes: &[u8]) -> Result<Cow<'_, str>, DecodingError> {
+fn front_unless_borrowed<F: Flavor, const LENIENT: bool>(bytes: &[u8]) -> Option<FoundFront> {
+    let front = front_unless_kept::<F, Tested>(bytes)?;
+    let rest = bytes.part(front.len..);
+    if LENIENT && matches!(rest, [0 | 0xF0..=0xF7, ..]) && is_utf8_by_parts(rest) {
+        return None;
+    }
+    Some(front)
+}
+
+/// Decodes strictly. Input is rejected before memory is allocated.
+#[cfg_attr(not(debug_assertions), inline(always))]
+fn strict<F: Flavor, A: Accepts, const LENIENT: bool>(
+    bytes: &[u8],
+) -> Result<Cow<'_, str>, DecodingError> {
     if bytes.len() <= FEW {
-        return strict_few::<F, Tested<A>>(bytes);
+        return strict_few::<F, LENIENT>(bytes);
     }
     if A::is_short_kept::<F>(bytes) {
         return Ok(Cow::Borrowed(known_text(bytes)));
     }
-    let Some(front) = front_unless_kept::<F, Tested<A>>(bytes) else {
+    let Some(front) = front_unless_borrowed::<F, LENIENT>(bytes) else {
         return Ok(Cow::Borrowed(known_text(bytes)));
     };
-    let rest = &bytes[front.len..];
+    let rest = bytes.part(front.len..);
     if valid_up_to_other::<F>(rest) < rest.len() {
         return Err(DecodingError(()));
     }
@@ -77,24 +132,25 @@ fn strict<F: Flavor, A: Accepts>(bytes: &[u8]) -> Result<Cow<'_, str>, DecodingE
 }
 
 /// The same, for at most 64 bytes. What changes gets shorter, so a text of the same length is the
-/// bytes.
+/// bytes. No UTF-8 changes in strict decoding, so the test for it may come last.
 #[cfg_attr(not(debug_assertions), inline(always))]
-fn strict_few<F: Flavor, A: Accepts>(bytes: &[u8]) -> Result<Cow<'_, str>, DecodingError> {
+fn strict_few<F: Flavor, const LENIENT: bool>(bytes: &[u8]) -> Result<Cow<'_, str>, DecodingError> {
     let mut text = [0; FEW];
-    match decode_to_slice::<F, A, StrictReading>(bytes, &mut text) {
+    match decode_to_slice::<F, Tested, StrictReading>(bytes, &mut text) {
         Ok(len) if len == bytes.len() => Ok(Cow::Borrowed(known_text(bytes))),
-        Ok(len) => Ok(Cow::Owned(known_string(text[..len].to_vec()))),
+        Ok(len) => Ok(Cow::Owned(known_string(text.part(..len).to_vec()))),
+        Err(_) if LENIENT && is_utf8_by_parts(bytes) => Ok(Cow::Borrowed(known_text(bytes))),
         Err(_) => Err(DecodingError(())),
     }
 }
 
-/// Decodes what a call that takes `A` takes, and replaces what is ill-formed.
+/// Decodes, and replaces what is ill-formed.
 #[cfg_attr(not(debug_assertions), inline(always))]
-fn lossy<F: Flavor, A: Accepts>(bytes: &[u8]) -> Cow<'_, str> {
+fn lossy<F: Flavor, A: Accepts, const LENIENT: bool>(bytes: &[u8]) -> Cow<'_, str> {
     if bytes.len() > FEW && A::is_short_kept::<F>(bytes) {
         return Cow::Borrowed(known_text(bytes));
     }
-    let Some(front) = front_unless_kept::<F, Tested<A>>(bytes) else {
+    let Some(front) = front_unless_borrowed::<F, LENIENT>(bytes) else {
         return Cow::Borrowed(known_text(bytes));
     };
     match decode::decode_lossy::<F>(Global, bytes, front) {
@@ -107,17 +163,14 @@ fn too_short(fault: TooShort) -> SliceError {
     SliceError::TooShort { needed: fault.needed() }
 }
 
-fn strict_fault(fault: DecodeSliceFault) -> SliceError {
-    match fault {
-        DecodeSliceFault::Invalid(_) => SliceError::Invalid,
-        DecodeSliceFault::TooShort(fault) => too_short(fault),
-    }
-}
-
-fn lossy_fault(fault: LossySliceFault) -> SliceError {
-    match fault {
-        LossySliceFault::TooLong => SliceError::TooLong,
-        LossySliceFault::TooShort(fault) => too_short(fault),
+/// Writes the decoded text to a slice, of bytes that are not short ASCII.
+#[cfg_attr(not(debug_assertions), inline(always))]
+fn to_slice<F: Flavor, S: Reading>(bytes: &[u8], buf: &mut [u8]) -> SliceResult {
+    match decode_to_slice::<F, Tested, S>(bytes, buf) {
+        Ok(len) => Ok(len),
+        Err(Unwritten::NoText) => Err(SliceError::Invalid),
+        Err(Unwritten::TooLong) => Err(SliceError::TooLong),
+        Err(Unwritten::NoRoom(no_room)) => Err(SliceError::TooShort { needed: no_room.needed }),
     }
 }
 
@@ -136,45 +189,40 @@ macro_rules! at_this_level {
 
 /// Defines the calls of an encoding: `$calls` has those of the library, and `$flavor` is its type.
 macro_rules! calls_of {
-    ($module:ident, $calls:ident, $flavor:ident, $contains_changed:path) => {
+    ($module:ident, $calls:ident, $flavor:ident) => {
         pub mod $module {
             use super::*;
 
             at_this_level! {
-                needs_encoded(text: &str) -> bool = $calls::needs_encoded(text);
-                contains_changed(bytes: &[u8]) -> bool = $contains_changed(bytes);
-                encoded_len(text: &str) -> usize = $calls::encoded_len(text);
-                encode(text: &str) -> Cow<'_, [u8]> = bytes_of($calls::encode(Global, text));
+                contains_changed(bytes: &[u8]) -> bool = super::contains_changed::<$flavor>(bytes);
+                encoded_len(text: &str) -> usize = super::encoded_len::<$flavor>(text);
+                encode(text: &str) -> Cow<'_, [u8]> = encoded::<$flavor>(text);
                 encode_into(text: &str, buf: &mut Vec<u8>) -> () =
-                    $calls::encode_into(text, buf).unwrap_or_else(|_| capacity_overflow());
+                    super::encode_into::<$flavor>(text, buf);
                 decode_strict(bytes: &[u8]) -> Result<Cow<'_, str>, DecodingError> =
-                    strict::<$flavor, EncodingAlone>(bytes);
+                    strict::<$flavor, EncodingAlone, false>(bytes);
                 decode(bytes: &[u8]) -> Result<Cow<'_, str>, DecodingError> =
-                    strict::<$flavor, Lenient>(bytes);
+                    strict::<$flavor, Lenient, true>(bytes);
                 decode_lossy_strict(bytes: &[u8]) -> Cow<'_, str> =
-                    lossy::<$flavor, EncodingAlone>(bytes);
+                    lossy::<$flavor, EncodingAlone, false>(bytes);
                 decode_lossy(bytes: &[u8]) -> Cow<'_, str> =
-                    lossy::<$flavor, Lenient>(bytes);
+                    lossy::<$flavor, Lenient, true>(bytes);
                 decoded_len(bytes: &[u8]) -> Option<usize> = $calls::decoded_len(bytes);
                 lossy_len(bytes: &[u8]) -> Option<usize> = $calls::lossy_len(bytes);
                 valid_up_to(bytes: &[u8]) -> usize = $calls::valid_up_to(bytes);
                 encode_to_slice(text: &str, buf: &mut [u8]) -> SliceResult =
                     $calls::encode_to_slice(text, buf).map_err(too_short);
                 decode_strict_to_slice(bytes: &[u8], buf: &mut [u8]) -> SliceResult =
-                    $calls::decode_strict_to_slice(bytes, buf).map_err(strict_fault);
-                decode_to_slice(bytes: &[u8], buf: &mut [u8]) -> SliceResult =
-                    $calls::decode_to_slice(bytes, buf).map_err(strict_fault);
+                    to_slice::<$flavor, StrictReading>(bytes, buf);
                 decode_lossy_strict_to_slice(bytes: &[u8], buf: &mut [u8]) -> SliceResult =
-                    $calls::decode_lossy_strict_to_slice(bytes, buf).map_err(lossy_fault);
-                decode_lossy_to_slice(bytes: &[u8], buf: &mut [u8]) -> SliceResult =
-                    $calls::decode_lossy_to_slice(bytes, buf).map_err(lossy_fault);
+                    to_slice::<$flavor, LossyReading>(bytes, buf);
             }
         }
     };
 }
 
-calls_of!(of_cesu8, calls, Cesu8Flavor, active::contains_utf8_4_byte_char_header);
-calls_of!(of_mutf8, mutf8, Mutf8Flavor, active::contains_null_or_utf8_4_byte_char_header);
+calls_of!(of_cesu8, calls, Cesu8Flavor);
+calls_of!(of_mutf8, mutf8, Mutf8Flavor);
 
 at_this_level! {
     utf16_len(text: &str) -> usize = calls::utf16_len(text);

@@ -1,6 +1,12 @@
 //! The levels of x86-64.
 
 macro_rules! at_level {
+    (loop { $($function:tt)* } $call:expr) => {
+        #[target_feature(enable = "avx2,bmi1,bmi2,lzcnt,popcnt")]
+        unsafe $($function)*
+        // SAFETY: this level is called only if the processor has its features.
+        unsafe { $call }
+    };
     ($passes:ident { $($function:tt)* } $call:expr) => {
         #[cfg_attr(not(debug_assertions), inline(always))]
         $($function)*
@@ -38,6 +44,7 @@ pub(crate) mod v3;
 // Few processors have this level and not v3, so no function is inlined for speed alone.
 #[allow(unused_macros)] // A build for v3 has no v2.
 macro_rules! at_level {
+    (loop $($function:tt)*) => { at_level! { writer $($function)* } };
     ($($passes:ident)? $(#[inline $($never:tt)?])? { $($function:tt)* } $call:expr) => {
         #[target_feature(enable = "sse3,ssse3,sse4.1,sse4.2,popcnt")]
         $($(#[inline $never])?)?
