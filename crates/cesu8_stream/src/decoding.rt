@@ -16,8 +16,8 @@ pub trait Decoding: Conversion {
     /// The lossy reading of the encoding.
     ghost reading: { List ℕ → List ℕ };
 
-    /// Writes the lossy reading of the bytes to the buffer, and returns its length. It returns `None`
-    /// if the buffer is too short.
+    /// Writes the lossy reading of the bytes to the buffer, and returns its length. It returns
+    /// `None` if the buffer is too short.
     fn write_lossy(bytes: &[u8], buf: &mut [u8]) -> Option<usize>
         ensures some { IfSome result (λ len.
             StandsAtFront (utf8 (reading bytes.now)) len buf.old buf.new) }
