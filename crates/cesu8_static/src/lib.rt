@@ -5,7 +5,8 @@
 //! buffer. If the buffer is too short, it returns `TOO_SMALL` and the needed length. The `stream`
 //! calls, for input that comes in pieces, write as much as fits, and return a status, how many
 //! bytes they read and how many they wrote. No call takes memory. The calls here are for CESU-8,
-//! those of [`mutf8`] for MUTF-8, and those of [`java`] for Java strings with their length in front.
+//! those of [`mutf8`] for MUTF-8, and those of [`java`] for Java strings with their length in
+//! front.
 #![tactic(auto)]
 
 ghost use Rattle.std.specs.Prelude.{◌≡◌};
