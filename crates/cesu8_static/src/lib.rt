@@ -3,9 +3,10 @@
 //! C passes each slice as a pointer and a length, as `include/cesu8.h` declares it. A call returns
 //! a status and the length of its result, and writes the result at the front of the caller's
 //! buffer. If the buffer is too short, it returns `TOO_SMALL` and the needed length. The `stream`
-//! calls, for input that comes in pieces, write as much as fits, and return a status, how many bytes
-//! they read and how many they wrote. No call takes memory. The calls here are for CESU-8, those of
-//! [`mutf8`] for MUTF-8, and those of [`java`] for Java strings with their length in front.
+//! calls, for input that comes in pieces, write as much as fits, and return a status, how many
+//! bytes they read and how many they wrote. No call takes memory. The calls here are for CESU-8,
+//! those of [`mutf8`] for MUTF-8, and those of [`java`] for Java strings with their length in
+//! front.
 #![tactic(auto)]
 
 ghost use Rattle.std.specs.Prelude.{◌≡◌};

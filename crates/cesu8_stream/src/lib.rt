@@ -34,6 +34,7 @@ ghost use Rattle.cesu8_stream.specs.Lossy.{DecodesPiece};
 mod completion;
 mod conversion;
 mod cut;
+mod decoding;
 mod engine;
 pub mod laws;
 mod lossy;

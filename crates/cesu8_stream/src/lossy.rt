@@ -3,75 +3,13 @@
 //! it. That is the lossy reading, since it replaces each byte that is in no encoded character, and
 //! only these.
 
-ghost use Rattle.std.specs.Prelude.{◌≡◌, ℕ, ◌<◌, ◌≤◌, ◌+◌, List, [], ◌∷◌, ◌++◌, true, false, length, drop, IfSome, None};
-ghost use Rattle.simd_cesu8.specs.Slices.{StandsAtFront};
-ghost use Rattle.simd_cesu8.specs.Text.{IsText, utf8};
-ghost use Rattle.simd_cesu8.specs.Encoding.{Cesu8, Mutf8};
-ghost use Rattle.simd_cesu8.specs.Reading.{reading as reading_of};
-ghost use Rattle.cesu8_stream.specs.Written.{BeginsNone, NoneCrosses};
+ghost use Rattle.std.specs.Prelude.{◌≡◌, ◌<◌, ◌≤◌, ◌∷◌, true, false, length, drop};
 ghost use Rattle.cesu8_stream.specs.Lossy.{DecodesPiece, is_damage};
 
-use crate::conversion::{Conversion, FromCesu8, FromMutf8};
+use crate::decoding::Decoding;
 use crate::engine::convert_rest;
 use crate::lossy_windows::decode_windows;
 use crate::progress::{Progress, State};
-use simd_cesu8::{laws, mutf8};
-
-/// A conversion from an encoding to UTF-8.
-pub trait Decoding: Conversion {
-    /// The lossy reading of the encoding.
-    ghost reading: { List ℕ → List ℕ };
-
-    /// Writes the lossy reading of the bytes to the buffer, and returns its length. It returns `None`
-    /// if the buffer is too short.
-    fn write_lossy(bytes: &[u8], buf: &mut [u8]) -> Option<usize>
-        ensures some { IfSome result (λ len.
-            StandsAtFront (utf8 (reading bytes.now)) len buf.old buf.new) }
-        ensures unchanged { result ≡ None → buf.new ≡ buf.old };
-
-    /// What is known of the lossy reading.
-    fn lossy_laws()
-        ensures text { (text more : List ℕ) → IsText text
-            → reading (Self.from text ++ more) ≡ text ++ reading more }
-        ensures damage { (byte : ℕ) (more : List ℕ) → BeginsNone Self.from (byte ∷ more)
-            → reading (byte ∷ more) ≡ 0xFFFD ∷ reading more }
-        ensures parts { (first others : List ℕ) → NoneCrosses Self.from first others
-            → reading (first ++ others) ≡ reading first ++ reading others }
-        ensures is_text { (bytes : List ℕ) → IsText (reading bytes) }
-        ensures to_utf8 { (text : List ℕ) → Self.to text ≡ utf8 text };
-}
-
-impl Decoding for FromCesu8 {
-    ghost reading = { reading_of Cesu8 };
-
-    #[inline(always)]
-    fn write_lossy(bytes: &[u8], buf: &mut [u8]) -> Option<usize> {
-        simd_cesu8::decode_lossy_strict_to_slice(bytes, buf).ok()
-    }
-
-    fn lossy_laws() {
-        laws::around();
-        laws::split();
-        laws::places();
-        laws::lossy();
-    }
-}
-
-impl Decoding for FromMutf8 {
-    ghost reading = { reading_of Mutf8 };
-
-    #[inline(always)]
-    fn write_lossy(bytes: &[u8], buf: &mut [u8]) -> Option<usize> {
-        mutf8::decode_lossy_strict_to_slice(bytes, buf).ok()
-    }
-
-    fn lossy_laws() {
-        laws::around();
-        laws::split();
-        laws::places();
-        laws::lossy();
-    }
-}
 
 /// U+FFFD in UTF-8.
 const REPLACEMENT: [u8; 3] = [0xEF, 0xBF, 0xBD];

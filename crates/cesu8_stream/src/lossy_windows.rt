@@ -5,8 +5,8 @@ ghost use Rattle.std.specs.Prelude.{◌≡◌, ◌≤◌, false, length};
 ghost use Rattle.cesu8_stream.specs.Lossy.{ReadsOn};
 
 use crate::cut::is_cut;
+use crate::decoding::Decoding;
 use crate::engine::{Moved, convert_window};
-use crate::lossy::Decoding;
 use crate::window::whole_characters;
 
 /// Input that is shorter is left to `lossy`, which then takes no longer.

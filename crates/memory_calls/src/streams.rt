@@ -8,8 +8,8 @@ use test_cases::flavors::Flavor;
 /// More than any call here writes: U+FFFD for each of 65,536 bytes.
 const ROOM: usize = 200_000;
 
-/// Makes the call of a name, with the bytes as the only piece, and prints why it stopped and what it
-/// wrote. Returns `None` for any other name.
+/// Makes the call of a name, with the bytes as the only piece, and prints why it stopped and what
+/// it wrote. Returns `None` for any other name.
 pub fn make(rt: &HostRuntime, name: &str, flavor: Flavor, bytes: &[u8]) -> Option<io::Result<()>> {
     let mut room = [0; ROOM];
     let progress = convert(name, flavor, bytes, &mut room)?;

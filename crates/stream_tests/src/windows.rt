@@ -10,7 +10,7 @@ use std::test::Fail;
 /// The buffer of a call. A window has a third of its bytes, and then at least five fewer.
 const ROOM: usize = 300;
 
-/// How many letters are in front: so the end of the first window is before, in or after what follows.
+/// How many letters come first: the end of the first window is before, in or after what follows.
 const FRONTS: std::ops::Range<usize> = 84..101;
 
 /// Returns a damaged byte, so many letters, the bytes and as many letters again.

@@ -1,7 +1,7 @@
 use Rattle.simd_cesu8.specs.Encoding.{Cesu8}
 use Rattle.cesu8_stream.proofs.LossyReadings.{text_read, damage_read}
 use Rattle.cesu8_stream.proofs.LossyWindows.{parts_read}
-use Rattle.cesu8_stream.proofs.lossy.FromCesu8Decoding.lossy_laws.Goals as goal
+use Rattle.cesu8_stream.proofs.decoding.FromCesu8Decoding.lossy_laws.Goals as goal
 
 pub returns-clause-text : goal.returns-clause-text
 returns-clause-text c = text_read c.around.ensures Cesu8
