@@ -157,7 +157,8 @@ emulate() {
         export "${name}_LINKER=$folder/link-$1" "${name}_RUSTFLAGS=-C linker-flavor=ld"
         export "${name}_RUNNER=$folder/usr/bin/$3 -L $folder" RUSTC=$RUSTC_1_85
         export CARGO_PROFILE_TEST_OPT_LEVEL=1
-        target=$1 in_crate test --target "$2" --tests -- --skip fast_path
+        CESU8_INPUTS=$debug_inputs target=$1 in_crate test --target "$2" --tests -- \
+            --skip fast_path
     ); then
         pass
     else
