@@ -4,6 +4,7 @@ pub mod DecodedChunks
 pub mod WrittenChunks
 pub mod Changed
 pub mod DecodedPairs
+pub mod DecodedUnchanged
 pub mod SliceReadings
 pub mod Strings
 pub mod WholeBytes
@@ -12,8 +13,8 @@ pub mod ShownBytes
 pub mod FollowingBytes
 pub mod EncodedFollow
 pub mod Fronts
+pub mod EventFronts
+pub mod MaskFronts
 pub mod Utf8Parts
 pub mod UnchangedFronts
 pub mod FrontReadings
-pub mod Stops
-pub mod StopSets

@@ -13,6 +13,7 @@ pub mod FollowingBlocks
 pub mod WindowEnds
 pub mod BlocksInPlace
 pub mod Passes
+pub mod FewWindows
 pub mod EventBits
 pub mod EventsDecoded
 pub mod Events

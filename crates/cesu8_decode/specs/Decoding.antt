@@ -8,6 +8,7 @@ use Rattle.cesu8_decode.specs.declared.way.TheConstants.{FEW_BYTES, SMALL_ARRAY,
 use Rattle.cesu8_decode.specs.declared.way.Way.{Way}
 use Rattle.cesu8_decode.specs.declared.way.Way.TheVariants.{Few, SmallArray, LargeArray, LargestArray, Chunks}
 use Rattle.cesu8_decode.specs.declared.pass.window.TheConstants.{WIDEST, ROOM}
+use Rattle.cesu8_decode.specs.declared.pass.events.TheConstants.{STORED_AFTER}
 use Rattle.cesu8_decode.specs.declared.pass.windows.Pass.{Pass}
 use Rattle.cesu8_decode.specs.DecodedOffsets.{window_of, decoded, is_ill_formed_at, is_boundary_at}
 use Rattle.cesu8_bytes.specs.TextChunks.{IsReadSoFar}
@@ -28,6 +29,10 @@ most_written Lossy n = WIDEST * n
 -- A buffer has room for the text of n bytes, and after it for that of a window.
 abbrev pub room_for : Strictness → ℕ → ℕ
 room_for which n = most_written which n + ROOM
+
+-- A buffer has room for the text of at most 64 bytes, and for what is stored after it.
+abbrev pub room_for_few : Strictness → ℕ
+room_for_few which = most_written which FEW_BYTES + STORED_AFTER
 
 -- No text of the bytes is longer.
 abbrev pub most_of_text : Flavor → Strictness → List ℕ → ℕ

@@ -1,11 +1,9 @@
 -- Which bytes may follow which in whole encoded characters.
-use Rattle.std.specs.Prelude.{◌≡◌, ℕ, ◌+◌, ◌/◌, ◌%◌, map, drop, ◌<◌, ◌≤◌, ◌&&◌, ◌||◌, ◌==◌, nat_le, nat_lt, if◌then◌else◌, not, Bool, true, false, List, ◌∷◌, length, slice_index, bit_and}
-use Rattle.std.specs.List.{range_with_len}
-use Rattle.std.specs.Simd.Lanes.{chunk, mask_l}
+use Rattle.std.specs.Prelude.{◌≡◌, ℕ, ◌+◌, ◌/◌, ◌%◌, ◌<◌, ◌≤◌, ◌&&◌, ◌||◌, ◌==◌, nat_le, nat_lt, if◌then◌else◌, not, Bool, true, false, List, ◌∷◌, length, slice_index, bit_and}
+use Rattle.std.specs.Simd.Lanes.{chunk}
 use Rattle.cesu8_text.specs.Class.{is_null}
 use Rattle.cesu8_text.specs.Encoding.{Flavor}
 use Rattle.cesu8_bytes.specs.Pairs.{null_at}
-use Rattle.cesu8_bytes.specs.declared.TheConstants.{BLOCK}
 use Rattle.cesu8_decode.specs.DecodedOffsets.{continues}
 use Rattle.cesu8_decode.specs.declared.lanes.character_set.Block.{Block}
 use Rattle.cesu8_decode.specs.declared.lanes.character_set.Rule.{Rule}
@@ -87,17 +85,6 @@ pub record IsBlockAt (s : CharacterSet) (window : List ℕ) (i : ℕ) (block : B
 abbrev pub after_fillers : List ℕ → List ℕ
 after_fillers bytes = 0 ∷ 0 ∷ 0 ∷ 0 ∷ bytes
 
--- The bits of a set are those of the n bytes of a window from byte i + 4 on that may not follow.
-pub record AreStops (s : CharacterSet) (f : Flavor) (window : List ℕ) (i n set : ℕ) : Type 0 where
-  pub bits : set ≡ mask_l (map (λ k. not (follows_at s f window k)) (range_with_len i n))
-
--- A set has the bytes that may not follow, and zeros behind them up to the end of a block.
-pub record HasStops (s : CharacterSet) (f : Flavor) (bytes : List ℕ) (set : ℕ) : Type 0 where
-  pub n : ℕ
-  pub within : (length bytes ≤ n) × (n ≤ 64)
-  pub behind : ¬ (length bytes % BLOCK ≡ 0) → length bytes < n
-  pub stops : AreStops s f (after_fillers bytes) 0 n set
-
 -- Each of n bytes of a window, from byte i + 4 on, may follow the four before it.
 abbrev pub AllFollow : CharacterSet → Flavor → List ℕ → ℕ → ℕ → Type 0
 AllFollow s f window i n = (k : ℕ) → i ≤ k → k < i + n → follows_at s f window k ≡ true
@@ -122,8 +109,3 @@ abbrev pub crosses_at : CharacterSet → List ℕ → ℕ → Bool
 crosses_at s window i =
     let w = slice_index window in
     crosses s (w i) (w (i + 1)) (w (i + 2)) (w (i + 3))
-
--- What may follow from byte n on, and which boundary is crossed, is as if the bytes began there.
-pub record IsSeam (s : CharacterSet) (f : Flavor) (bytes : List ℕ) (n : ℕ) : Type 0 where
-  pub follows : (k : ℕ) → follows_at s f (after_fillers (drop n bytes)) k ≡ follows_at s f (after_fillers bytes) (n + k)
-  pub crosses : (k : ℕ) → crosses_at s (after_fillers (drop n bytes)) k ≡ crosses_at s (after_fillers bytes) (n + k)

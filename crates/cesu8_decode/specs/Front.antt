@@ -1,9 +1,12 @@
 -- Bytes at the front that are whole characters of a set.
-use Rattle.std.specs.Prelude.{◌≡◌, ◌↔◌, ℕ, ◌<◌, ◌≤◌, List, length, take, Any}
+use Rattle.std.specs.Prelude.{◌≡◌, ◌↔◌, ℕ, ◌<◌, ◌≤◌, ◌||◌, Bool, false, List, length, take, Any}
 use Rattle.cesu8_text.specs.Encoding.{Flavor, encoding, IsEncodedOtherwise}
 use Rattle.cesu8_text.specs.Text.{IsText}
-use Rattle.cesu8_decode.specs.Following.{CharacterSet, Encoded, Unchanged, HasStops}
-use Rattle.cesu8_decode.specs.declared.front.FoundFront.{FoundFront}
+use Rattle.cesu8_text.specs.Reading.{HasNoStrictReading}
+use Rattle.cesu8_decode.specs.DecodedOffsets.{is_ill_formed_at, window_of}
+use Rattle.cesu8_decode.specs.Following.{CharacterSet, Encoded, Unchanged}
+use Rattle.cesu8_decode.specs.Masks.{Marks, is_pair_at, is_null_at}
+use Rattle.cesu8_decode.specs.declared.front.few.FoundFront.{FoundFront}
 use Rattle.cesu8_decode.specs.declared.way.TheConstants.{FEW_BYTES}
 
 -- A scalar value is none of the set.
@@ -17,23 +20,34 @@ pub record AreWhole (s : CharacterSet) (f : Flavor) (bytes : List ℕ) : Type 0 
   pub reads : IsText text × (encoding f text ≡ bytes)
   pub inside : ¬ (Any (IsOutside s f) text)
 
--- So many bytes at the front are, and no more.
+-- The first n bytes are, and no longer prefix is.
 pub record IsFront (s : CharacterSet) (f : Flavor) (bytes : List ℕ) (n : ℕ) : Type 0 where
   pub within : n ≤ length bytes
   pub whole : AreWhole s f (take n bytes)
   pub greatest : (m : ℕ) → n < m → m ≤ length bytes → ¬ (AreWhole s f (take m bytes))
 
--- A front has their length, and of a few bytes the set of those that may not follow.
-pub record IsFrontOf (s : CharacterSet) (f : Flavor) (bytes : List ℕ) (front : FoundFront) : Type 0 where
-  pub len : IsFront s f bytes front.len
-  pub stops : length bytes ≤ FEW_BYTES → HasStops s f bytes front.stops
+-- A surrogate pair begins at an offset, or C0 80 in MUTF-8.
+abbrev pub is_changed_at : Flavor → List ℕ → ℕ → Bool
+is_changed_at f bytes i = is_pair_at f bytes i || is_null_at f bytes i
 
--- Where it is that of the characters that are the same in UTF-8, not all bytes are such characters.
+-- A mask that is not zero marks the characters that change, and then no byte is ill-formed.
+pub record AreChanges (f : Flavor) (bytes : List ℕ) (mask : ℕ) : Type 0 where
+  pub marks : Marks mask (is_changed_at f bytes) 0 (length bytes)
+  pub whole : (i : ℕ) → i < length bytes → is_ill_formed_at f (window_of bytes) i ≡ false
+
+-- A front has their length. Of at most 64 bytes the characters that change are known too, if no byte
+-- is ill-formed.
+pub record IsFrontOf (f : Flavor) (bytes : List ℕ) (front : FoundFront) : Type 0 where
+  pub len : IsFront Unchanged f bytes front.len
+  pub changes : length bytes ≤ FEW_BYTES → ¬ (front.changed ≡ 0) → AreChanges f bytes front.changed
+  pub none : length bytes ≤ FEW_BYTES → front.changed ≡ 0 → front.len < length bytes → HasNoStrictReading f bytes
+
+-- Not all bytes are such characters.
 pub record IsPartialFront (f : Flavor) (bytes : List ℕ) (front : FoundFront) : Type 0 where
-  pub found : IsFrontOf Unchanged f bytes front
+  pub found : IsFrontOf f bytes front
   pub more : front.len < length bytes
 
--- It is of all bytes exactly if a call keeps them, and else of those characters.
+-- The front is all bytes exactly if a call keeps them, and otherwise it is that of such characters.
 pub record IsFrontUnlessKept (f : Flavor) (are_kept : Type 0) (bytes : List ℕ) (found : FoundFront) : Type 0 where
   pub kept : (found.len ≡ length bytes) ↔ are_kept
   pub front : ¬ (found.len ≡ length bytes) → IsPartialFront f bytes found

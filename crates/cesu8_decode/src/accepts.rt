@@ -9,7 +9,6 @@ ghost use Rattle.cesu8_text.proofs.reading.KeptTexts.{encoding_texts, lenient_te
 ghost use Rattle.cesu8_decode.specs.Front.{IsPartialFront, IsFrontUnlessKept};
 
 use crate::front::{FoundFront, front};
-use crate::lanes::character_set::Unchanged;
 use crate::utf8::is_utf8_by_parts;
 use crate::way::are_few;
 use cesu8_bytes::flavor::{Cesu8Flavor, Flavor};
@@ -39,7 +38,7 @@ pub trait Accepts {
 }
 
 /// Returns `None` where `A` keeps all bytes, or a part at the front: `len` bytes, not all, that
-/// stay in UTF-8. Of at most 64, `stops` has a bit for each that may not follow those before it.
+/// are the same in UTF-8, and which characters of at most 64 bytes change.
 #[inline(always)]
 pub fn front_unless_kept<F: Flavor, A: Accepts>(bytes: &[u8]) -> Option<FoundFront>
     ensures kept { IfNone result (A.keeps F.flavor bytes.now) }
@@ -82,7 +81,7 @@ impl Accepts for Lenient {
 
     #[inline(always)]
     fn front_of_other<F: Flavor>(bytes: &[u8]) -> FoundFront {
-        let front = front::<F, Unchanged>(bytes);
+        let front = front::<F>(bytes);
         // Where all is UTF-8, a character that changes begins there: of four bytes, or 00.
         if front.len == bytes.len() || !matches!(bytes[front.len], 0 | 0xF0..=0xF7) {
             return front;
@@ -106,7 +105,7 @@ fn all_if_utf8(bytes: &[u8], front: FoundFront) -> FoundFront
     }
     FoundFront {
         len: bytes.len(),
-        stops: 0,
+        changed: 0,
     }
 }
 
@@ -146,7 +145,7 @@ impl Accepts for EncodingAlone {
 
     #[inline(always)]
     fn front_of_other<F: Flavor>(bytes: &[u8]) -> FoundFront {
-        front::<F, Unchanged>(bytes)
+        front::<F>(bytes)
     }
 
     ghost known = { encoding_texts };

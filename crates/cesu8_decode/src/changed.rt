@@ -9,7 +9,7 @@ use cesu8_bytes::flavor::Flavor;
 use cesu8_bytes::lanes::short::copy_short;
 use cesu8_bytes::pairs::{PAIR_READ, is_pair};
 
-/// Returns whether a byte may begin one, in either flavor: `strings` and `slices` test this first.
+/// Returns whether a byte may begin one, in either flavor: `strings` tests this first.
 #[inline(always)]
 pub fn may_lead_changed(byte: u8) -> bool
     ensures { (f : AnyFlavor) (bytes : List ℕ) → BeginsChanged f bytes

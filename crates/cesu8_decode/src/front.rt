@@ -3,86 +3,46 @@
 //! of more than 64 bytes goes on where it stopped; other reading begins again.
 //!
 //! Vectors find the first byte that may not follow those before it. The front ends there, or at the
-//! last boundary before, if a character is cut off there.
+//! last boundary before, if a character is cut off there. Of at most 64 bytes one window tells it.
 
-ghost use Rattle.std.specs.Prelude.{◌≡◌, ◌+◌, ◌-◌, ◌<◌, ◌≤◌, IsTrue, true, false, length, slice_index};
-ghost use Rattle.cesu8_text.specs.Fronts.{IsValidUpTo};
-ghost use Rattle.cesu8_text.specs.Reading.{IsStrictReading, HasNoStrictReading, reading};
+ghost use Rattle.std.specs.Prelude.{◌≡◌, ◌+◌, ◌-◌, ◌<◌, ◌≤◌, length, slice_index};
 ghost use Rattle.cesu8_decode.specs.Following.{FirstFollow, FollowUpTo, Encoded as AllEncoded, after_fillers, crosses_at, is_high_surrogate};
 ghost use Rattle.cesu8_decode.specs.Front.{IsFront, IsFrontOf};
 
-use crate::lanes::character_set::{CharacterSet, DECIDING, Encoded};
+pub mod few;
+
+use crate::lanes::character_set::{CharacterSet, DECIDING, Unchanged};
 use crate::lanes::following::{block_behind, following_len, two_follow};
-use crate::lanes::stops::{next_stop, stops_of_few};
 use crate::way::{FEW_BYTES, are_few};
 use cesu8_bytes::BLOCK;
 use cesu8_bytes::flavor::Flavor;
 use cesu8_bytes::lanes::class::{Either, NonAscii};
 use cesu8_bytes::lanes::runs::run_of_groups;
-use cesu8_bytes::looks::is_short_unchanged_ascii;
+pub use few::FoundFront;
+use few::front_of_few;
 use std::simd::prelude::*;
 
-/// How many bytes at the front are whole characters of a set. For at most 64, `stops` has a bit for
-/// each that may not follow, as of the zeros that fill their block; for more it means nothing.
-#[derive(Clone, Copy)]
-pub struct FoundFront {
-    pub len: usize,
-    pub stops: u64,
-}
-
-/// Returns how many bytes at the front are whole encoded characters.
+/// Returns the front of the bytes.
 #[inline(always)]
-pub fn valid_up_to<F: Flavor>(bytes: &[u8]) -> usize
-    ensures { IsValidUpTo F.flavor bytes.now result }
+pub fn front<F: Flavor>(bytes: &[u8]) -> FoundFront
+    ensures { IsFrontOf F.flavor bytes.now result }
 {
-    if is_short_unchanged_ascii::<F>(bytes) {
-        return bytes.len();
+    if are_few(bytes) {
+        return front_of_few::<F>(bytes);
     }
-    valid_up_to_other::<F>(bytes)
-}
-
-/// Does so for any bytes, with no test for short ASCII; `is_ill_formed` begins here. It is not
-/// inlined, so that `valid_up_to`, which makes that test first, stays small.
-#[inline(never)]
-pub fn valid_up_to_other<F: Flavor>(bytes: &[u8]) -> usize
-    ensures { IsValidUpTo F.flavor bytes.now result }
-{
-    front::<F, Encoded>(bytes).len
-}
-
-/// Returns how many bytes at the front are whole characters of a set, with the stops of a few.
-#[inline(always)]
-pub fn front<F: Flavor, S: CharacterSet>(bytes: &[u8]) -> FoundFront
-    ensures { IsFrontOf S.set F.flavor bytes.now result }
-{
-    let (at, stops) = if are_few(bytes) {
-        let stops = stops_of_few::<F, S>(bytes);
-        // The zeros that fill the block may follow too, so no character is cut off; but of a pair
-        // one may follow the first half. In MUTF-8 no zero may follow anything, so this is false.
-        if stops == 0 && bytes.len() % BLOCK != 0 && !S::rule().has_changed {
-            return FoundFront {
-                len: bytes.len(),
-                stops,
-            };
-        }
-        (next_stop::<F, S>(bytes, stops, 0), stops)
-    } else {
-        (following_many::<F, S>(bytes), 0)
-    };
     FoundFront {
-        len: last_boundary::<F, S>(bytes, at),
-        stops,
+        len: front_of_many::<F, Unchanged>(bytes),
+        changed: 0,
     }
 }
 
-/// Returns whether some byte is in no encoded character. It stops soon after the first such byte.
+/// Returns how many of more than 64 bytes at the front are whole characters of a set.
 #[inline(always)]
-pub fn is_ill_formed<F: Flavor>(bytes: &[u8]) -> bool
-    ensures ill_formed { IsTrue result → HasNoStrictReading F.flavor bytes.now }
-    ensures whole { result ≡ false → IsStrictReading F.flavor bytes.now
-        (reading F.flavor bytes.now) }
+pub fn front_of_many<F: Flavor, S: CharacterSet>(bytes: &[u8]) -> usize
+    requires { FEW_BYTES < length bytes.now }
+    ensures { IsFront S.set F.flavor bytes.now result }
 {
-    valid_up_to_other::<F>(bytes) < bytes.len()
+    last_boundary::<F, S>(bytes, following_many::<F, S>(bytes))
 }
 
 /// Returns how many of more than 64 bytes may follow those before them, up to the first that may

@@ -2,13 +2,13 @@
 //!
 //! - `tables`: tables of sixteen entries, and bytes moved from one vector to the next
 //! - `character_set`, `following`: which byte may follow which in whole characters of a set
-//! - `stops`: which of a few bytes may not, as the bits of a word
+//! - `padded`: at most 64 bytes as one vector
 //! - `masks`: what begins at each offset, as the bits of words
 //! - `windows`: what changes in 64 bytes, and where the last character ends
 
 pub mod character_set;
 pub mod following;
 pub mod masks;
-pub mod stops;
+pub mod padded;
 pub mod tables;
 pub mod windows;

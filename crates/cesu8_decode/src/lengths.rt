@@ -8,9 +8,9 @@ ghost use Rattle.cesu8_text.specs.Slices.{ReadsAtLength};
 mod counts;
 
 use crate::changed::begins_changed;
-use crate::front::{front, is_ill_formed};
-use crate::lanes::character_set::Unchanged;
+use crate::front::front;
 use crate::lanes::masks::STEP;
+use crate::valid::is_ill_formed;
 use cesu8_bytes::flavor::Flavor;
 use cesu8_bytes::lanes::class::LANES;
 use counts::{saved_by_few, saved_by_last, saved_by_step};
@@ -21,7 +21,7 @@ pub fn decoded_len<F: Flavor>(bytes: &[u8]) -> Option<usize>
         ReadsAtLength (IsStrictReading F.flavor bytes.now) (λ text_len. len ≡ text_len)) }
     ensures none { IfNone result (HasNoStrictReading F.flavor bytes.now) }
 {
-    let front = front::<F, Unchanged>(bytes).len;
+    let front = front::<F>(bytes).len;
     let rest = &bytes[front..];
     if rest.is_empty() {
         return Some(front);

@@ -8,12 +8,14 @@
 //!
 //! - `accepts`: what a call takes
 //! - `lanes`: what vectors tell of 32 or 64 bytes, with no branch on a single byte
-//! - `front`: how many bytes are whole characters of a set, with which each call begins
+//! - `front`: how many bytes are whole characters that are the same in UTF-8, with which each call
+//!   begins
+//! - `valid`: how many bytes at the front are whole encoded characters
 //! - `utf8`: whether bytes are UTF-8, which lenient calls test from the end of the front on
 //! - `lengths`: the lengths of the readings
 //! - `way`: which way other bytes go
 //! - `changed`: whether bytes begin with a character that changes
-//! - `pass`: a few bytes by the first that may not follow, and more in one pass by windows
+//! - `pass`: at most 64 bytes by one window, and more in one pass by windows
 //! - `destinations`: the text of a `String` or of a caller's slice
 //! - `copy_or_write`: a slice again, with what stays copied
 //!
@@ -37,6 +39,7 @@ mod lengths;
 mod pass;
 pub mod refusal;
 mod utf8;
+pub mod valid;
 mod way;
 
 use crate::front::FoundFront;

@@ -3,9 +3,9 @@
 //! - `events`: what the bytes of a window become
 //! - `window`: one window
 //! - `windows`: one window after another, as many as a buffer has room for
-//! - `strict_few`: up to 64 bytes in strict reading, without the pass
+//! - `few`: up to 64 bytes, by a window without the pass
 
 pub mod events;
-pub mod strict_few;
+pub mod few;
 mod window;
 pub mod windows;

@@ -4,28 +4,20 @@
 //! in parts that end between characters, and nothing is read after the first part with an error.
 //! `simdutf8::is_utf8` reads all bytes, and copies the last ones to a buffer.
 
-ghost use Rattle.std.specs.Prelude.{◌≡◌, ◌↔◌, ℕ, ◌+◌, ◌-◌, ◌<◌, ◌≤◌, List, ◌++◌, IsTrue, IsUtf8, length, replicate};
+ghost use Rattle.std.specs.Prelude.{◌≡◌, ◌↔◌, ℕ, ◌+◌, ◌-◌, ◌<◌, ◌≤◌, List, ◌++◌, IsTrue, IsUtf8, length};
 ghost use Rattle.std.specs.Str.{IsCharBoundary};
 ghost use Rattle.simdutf8.specs.Tracks.{HasRead};
 ghost use Rattle.cesu8_text.specs.Patterns.{IsContinuation};
 
+use crate::lanes::padded::padded;
 use crate::way::is_one_block;
-use cesu8_bytes::BLOCK;
 use cesu8_bytes::lanes::class::{LANES, NonAscii};
-use cesu8_bytes::lanes::padded::padded_half;
 use cesu8_bytes::lanes::search::any_in_bytes;
 use simdutf8::Checker;
 use std::simd::prelude::*;
 
 /// The most bytes of a part after the first, which has at most 64.
 const PART: usize = 16 * LANES;
-
-/// The indices of two blocks, one after the other.
-const BOTH_BLOCKS: [usize; LANES] = [
-    0, 1, 2, 3, 4, 5, 6, 7, 8, 9, 10, 11, 12, 13, 14, 15, 16, 17, 18, 19, 20, 21, 22, 23, 24, 25,
-    26, 27, 28, 29, 30, 31, 32, 33, 34, 35, 36, 37, 38, 39, 40, 41, 42, 43, 44, 45, 46, 47, 48, 49,
-    50, 51, 52, 53, 54, 55, 56, 57, 58, 59, 60, 61, 62, 63,
-];
 
 /// Returns whether the bytes are UTF-8. It is not inlined, so that its callers stay short.
 #[inline(never)]
@@ -124,17 +116,4 @@ fn is_rest_utf8(checker: Checker, rest: &[u8]) -> bool
         → (IsTrue result ↔ IsUtf8 (read ++ rest.now)) }
 {
     checker.step(padded(rest)).finish()
-}
-
-/// Returns at most 64 bytes with zeros after them.
-#[inline(always)]
-fn padded(bytes: &[u8]) -> u8x64
-    requires { length bytes.now ≤ LANES }
-    ensures { result ≡ bytes.now ++ replicate (LANES - length bytes.now) 0 }
-{
-    if is_one_block(bytes) {
-        return padded_half(bytes).shuffle::<LANES>(u8x32::splat(0), BOTH_BLOCKS);
-    }
-    let second = padded_half(&bytes[BLOCK..]);
-    u8x32::from_slice(bytes).shuffle::<LANES>(second, BOTH_BLOCKS)
 }

@@ -3,15 +3,15 @@
 //!
 //! | bytes | way | strict | lossy |
 //! |---|---|---|---|
-//! | at most 64 (`FEW_BYTES`) | `Few` | by stops | one window |
+//! | at most 64 (`FEW_BYTES`) | `Few` | one window | one window |
 //! | at most 256 (`SMALL_ARRAY`) | `SmallArray` | a small array | a small array |
 //! | at most 1,024 (`LARGE_ARRAY`) | `LargeArray` | a large array | a large array |
 //! | at most 4,096 (`LARGEST_ARRAY`) | `LargestArray` | chunks | the largest array |
 //! | more | `Chunks` | chunks | chunks |
 //!
-//! - By stops: `strict_few` goes from one character that changes to the next. Up to 64 bytes are
-//!   read like this in lossy reading too, if ED or C0 comes after the front and none is
-//!   ill-formed.
+//! - One window: the test of the front makes the masks of a window. If no byte is ill-formed, `few`
+//!   of `pass` writes the text by the mask of the characters that change. Otherwise strict reading
+//!   returns an error, and lossy reading makes all masks again.
 //! - The arrays: one pass, window after window of 64 bytes, with few branches on what is in them,
 //!   which would be guessed wrong. The text is copied from there. The lengths are for speed alone:
 //!   a larger array takes longer to clear, and more stack, for lossy text three bytes for each.
@@ -22,7 +22,7 @@
 //!
 //! In strict reading to a `String`, `fronts` of `destinations` reads more than 64 bytes, as long as
 //! changes stand far apart: 16 bytes (`FRONT`), then 64 (`LONG_FRONT`). Of a rest, at most 64 bytes
-//! go by stops, and more by chunks, from a small array where little room is left. In all strict
+//! go by one window, and more by chunks, from a small array if little room is left. In all strict
 //! reading, more that end within a character are refused before an array or chunks read them.
 
 ghost use Rattle.std.specs.Prelude.{◌≤◌, ◌↔◌, IsTrue, length};
@@ -40,7 +40,7 @@ pub enum Way {
     Chunks,
 }
 
-/// The most bytes that are read from one character that changes to the next, by the bits of a word.
+/// The most bytes that one window reads: a mask of 64 bits has one for each.
 pub const FEW_BYTES: usize = 2 * BLOCK;
 
 /// The most bytes whose text goes to the small array.
@@ -74,7 +74,7 @@ pub fn is_one_block(bytes: &[u8]) -> bool
     bytes.len() <= BLOCK
 }
 
-/// Returns whether so few bytes go by one set of those that may not follow.
+/// Returns whether one window reads all of the bytes.
 #[inline(always)]
 pub fn are_few(bytes: &[u8]) -> bool
     ensures { IsTrue result ↔ length bytes.now ≤ FEW_BYTES }

@@ -1,7 +1,6 @@
 -- Characters that change: how they are read, and by a prefix of the bytes that they begin.
 use Rattle.std.proofs.lemmas.Bool.Decides.{nat_tests}
-use Rattle.std.proofs.lemmas.Grind.{common_steps}
-use Rattle.std.proofs.Common.{◌≡◌, ℕ, ◌≤◌, List, [], ◌∷◌, ◌++◌, sym, ap, ◌∙◌, ⊎_elim, true, arith, length, drop, get_or, append-nil}
+use Rattle.std.proofs.Common.{◌≡◌, ℕ, ◌↔◌, ◌≤◌, List, [], ◌∷◌, ◌++◌, sym, ap, ◌∙◌, ⊎_elim, true, arith, length, drop, get_or, append-nil}
 use Rattle.std.proofs.Math.Seq.{drop-append_seam}
 use Rattle.cesu8_text.specs.Text.{utf8_of}
 use Rattle.cesu8_text.specs.Encoding.{Flavor, encoding}
@@ -106,24 +105,23 @@ pub changed_pair : (f : Flavor) (bytes : List ℕ) → BeginsChanged f bytes →
 changed_pair f bytes begins other = grind (arith, null_lead)
 
 -- A pair is one in a prefix of the bytes too.
-pub pair_in_prefix : (bytes prefix : List ℕ) → IsPrefixOf bytes prefix → HasPair bytes → HasPair prefix
+pair_in_prefix : (bytes prefix : List ℕ) → IsPrefixOf bytes prefix → HasPair bytes → HasPair prefix
 pair_in_prefix bytes prefix same has = (pair_by_prefix prefix bytes (λ i small. sym (same i small)) has).1
 
--- The bytes have all of the character that was seen in the prefix.
-module _ (f : Flavor) (bytes prefix : List ℕ) (same : IsPrefixOf bytes prefix) where
-  pub pair_within : HasPair prefix → 6 ≤ length bytes
-  pair_within has = (pair_by_prefix bytes prefix same has).0
+-- So what changes begins bytes exactly if it begins the prefix.
+pub begins_in_prefix : (f : Flavor) (bytes prefix : List ℕ) → IsPrefixOf bytes prefix → BeginsChanged f bytes ↔ BeginsChanged f prefix
+begins_in_prefix f bytes prefix same = (
+  λ begins. grind (arith, pair_in_prefix),
+  λ begins. grind (arith, pair_by_prefix),
+)
 
-  pub null_within : null_at f (get_or prefix 0 0) (get_or prefix 1 0) ≡ true → 2 ≤ length bytes
-  null_within null = grind (arith, common_steps)
+-- The UTF-8 of the character that was seen in the prefix is read.
+module _ (f : Flavor) (bytes prefix : List ℕ) (same : IsPrefixOf bytes prefix) (which : Strictness) (old new : List ℕ) where
+  pub seen_pair_read : HasPair prefix → (utf8 : List ℕ) → IsUtf8OfDigits (second_third_fifth_sixth prefix) utf8 → new ≡ old ++ utf8 →
+      IsReadSoFar f which bytes (drop 6 bytes) old new
+  seen_pair_read has utf8 is new_is =
+      let seen = pair_by_prefix bytes prefix same has in
+      pair_read f which bytes old utf8 new (pair_width f bytes seen.0 seen.1) (rw (sym (same_digits bytes prefix same)) is) new_is
 
-  -- Its UTF-8 is read.
-  module _ (which : Strictness) (old new : List ℕ) where
-    pub seen_pair_read : HasPair prefix → (utf8 : List ℕ) → IsUtf8OfDigits (second_third_fifth_sixth prefix) utf8 → new ≡ old ++ utf8 →
-        IsReadSoFar f which bytes (drop 6 bytes) old new
-    seen_pair_read has utf8 is new_is =
-        let seen = pair_by_prefix bytes prefix same has in
-        pair_read f which bytes old utf8 new (pair_width f bytes seen.0 seen.1) (rw (sym (same_digits bytes prefix same)) is) new_is
-
-    pub seen_null_read : null_at f (get_or prefix 0 0) (get_or prefix 1 0) ≡ true → new ≡ old ++ 0 ∷ [] → IsReadSoFar f which bytes (drop 2 bytes) old new
-    seen_null_read has new_is = null_read f which bytes old new (rw (sym (same 0 (omega arith)), sym (same 1 (omega arith))) has) new_is
+  pub seen_null_read : null_at f (get_or prefix 0 0) (get_or prefix 1 0) ≡ true → new ≡ old ++ 0 ∷ [] → IsReadSoFar f which bytes (drop 2 bytes) old new
+  seen_null_read has new_is = null_read f which bytes old new (rw (sym (same 0 (omega arith)), sym (same 1 (omega arith))) has) new_is

@@ -31,7 +31,7 @@ use Rattle.cesu8_decode.proofs.chunks.UnchangedFronts.{unchanged_front_chunk, no
 -- ---- what begins bytes
 
 -- A character that is encoded otherwise is a surrogate pair, or C0 80 in MUTF-8,
-otherwise_begins : (f : Flavor) (c : ℕ) (rest : List ℕ) → Shape c → IsEncodedOtherwise f c → BeginsChanged f (encoding f (c ∷ []) ++ rest)
+pub otherwise_begins : (f : Flavor) (c : ℕ) (rest : List ℕ) → Shape c → IsEncodedOtherwise f c → BeginsChanged f (encoding f (c ∷ []) ++ rest)
 otherwise_begins Cesu8 c rest (one ascii) high = absurd (omega arith)
 otherwise_begins Mutf8 c rest (one ascii) (inl null) = rw (encoding_one Mutf8 c ascii, short_form_null c null) (inr refl)
 otherwise_begins Mutf8 c rest (one ascii) (inr high) = absurd (omega arith)

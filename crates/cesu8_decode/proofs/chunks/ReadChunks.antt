@@ -65,7 +65,3 @@ pub whole_text : (f : Flavor) (which : Strictness) (bytes chunk : List ℕ) → 
 whole_text f which bytes chunk read =
     let all = all_read f which bytes [] [] chunk read refl in
     subst (IsDecodedText f which bytes) (sym (ap chars all.2 ∙ chars_utf8 all.0 all.1.0)) all.1
-
--- What is read strictly is read so in either reading.
-pub reads_either : (f : Flavor) (which : Strictness) (bytes text : List ℕ) → IsChunk f Strict bytes [] text → IsChunk f which bytes [] text
-reads_either f which bytes text read = grind arith

@@ -17,7 +17,7 @@ use Rattle.cesu8_text.proofs.reading.Borrowing.{unchanged_reading}
 use Rattle.cesu8_bytes.specs.declared.strictness.Strictness.{Strictness}
 use Rattle.cesu8_decode.specs.Following.{Encoded, Unchanged}
 use Rattle.cesu8_decode.specs.Front.{AreWhole, IsFront, IsFrontOf, IsFrontUnlessKept}
-use Rattle.cesu8_decode.specs.declared.front.FoundFront.{FoundFront}
+use Rattle.cesu8_decode.specs.declared.front.few.FoundFront.{FoundFront}
 use Rattle.cesu8_decode.proofs.by_offset.IllFormed.{IsChunk, chunk_of_text}
 use Rattle.cesu8_decode.proofs.chunks.WholeBytes.{none_outside}
 use Rattle.cesu8_decode.proofs.chunks.Fronts.{all_front, front_of_all, more_behind, bytes_are, none_behind}
@@ -38,7 +38,7 @@ unchanged_front f bytes unchanged =
     all_front Encoded f bytes (record { text = chars bytes; reads = unchanged_reading f bytes bytes refl unchanged; inside = none_outside _ (λ c none. none) (chars bytes) })
 
 -- and whole characters that do not change are such UTF-8.
-in_utf8 : (f : Flavor) (bytes : List ℕ) → (whole : AreWhole Unchanged f bytes) → utf8 whole.text ≡ bytes
+pub in_utf8 : (f : Flavor) (bytes : List ℕ) → (whole : AreWhole Unchanged f bytes) → utf8 whole.text ≡ bytes
 in_utf8 f bytes whole = sym (encoding_same f whole.text whole.reads.0 whole.inside) ∙ whole.reads.1
 
 whole_unchanged : (f : Flavor) (bytes : List ℕ) → AreWhole Unchanged f bytes → IsUnchangedUtf8 f bytes
@@ -114,7 +114,7 @@ module _ (f : Flavor) (bytes : List ℕ) (n : ℕ) (front : IsFront Unchanged f 
 -- ---- what a call keeps
 
 -- It is all that a call has to know of the bytes, unless they are kept for another reason,
-pub found_unless_kept : (f : Flavor) (are_kept : Type 0) (bytes : List ℕ) (front : FoundFront) → IsFrontOf Unchanged f bytes front →
+pub found_unless_kept : (f : Flavor) (are_kept : Type 0) (bytes : List ℕ) (front : FoundFront) → IsFrontOf f bytes front →
     (IsUnchangedUtf8 f bytes → are_kept) → (are_kept → front.len ≡ length bytes) → IsFrontUnlessKept f are_kept bytes front
 found_unless_kept f are_kept bytes front found stays only = record {
   kept = (λ all. stays ((all_unchanged f bytes front.len found.len).0 all), only);

@@ -1,5 +1,5 @@
 -- What the bits of tests tell of the lanes of a vector.
-use Rattle.std.proofs.Common.{◌≡◌, ℕ, zero, suc, ◌+◌, ◌-◌, ◌<◌, ◌≤◌, Bool, false, leb, List, ◌∷◌, ◌++◌, refl, sym, ap, ◌∙◌, arith, map, length, replicate, append-nil, get_or, take_all, Fits, w8}
+use Rattle.std.proofs.Common.{◌≡◌, ℕ, zero, suc, ◌+◌, ◌<◌, ◌≤◌, Bool, false, leb, List, ◌∷◌, ◌++◌, refl, sym, ap, ◌∙◌, arith, map, length, replicate, append-nil, get_or, take_all, Fits, w8}
 use Rattle.std.specs.List.{range_with_len}
 use Rattle.std.proofs.lemmas.Bool.{cases_Bool, leb-false}
 use Rattle.std.proofs.lemmas.Simd.{Each1-get_or, map-map, pick_l-range_with_len}

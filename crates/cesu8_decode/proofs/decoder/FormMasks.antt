@@ -113,7 +113,8 @@ module _ (f : Flavor) (xs : List ℕ) (small : (i : ℕ) → get_or xs i 0 < 256
 
 -- ---- bytes at another offset
 
-map_alike : (p q : ℕ → Bool) (i j n : ℕ) → ((k : ℕ) → k < n → p (i + k) ≡ q (j + k)) → map p (range_with_len i n) ≡ map q (range_with_len j n)
+-- Tests that agree at each offset have the same answers.
+pub map_alike : (p q : ℕ → Bool) (i j n : ℕ) → ((k : ℕ) → k < n → p (i + k) ≡ q (j + k)) → map p (range_with_len i n) ≡ map q (range_with_len j n)
 map_alike p q i j zero same = refl
 map_alike p q i j (suc n) same =
     let first : p i ≡ q j = ap p (sym (add-zero i)) ∙ same 0 (omega arith) ∙ ap q (add-zero j) in

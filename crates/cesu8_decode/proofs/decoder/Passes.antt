@@ -1,15 +1,21 @@
 -- The pass from window to window.
-use Rattle.std.proofs.Common.{◌≡◌, ℕ, ◌+◌, ◌≤◌, Bool, true, false, true≢false, List, [], ◌++◌, refl, sym, ap, ◌∙◌, subst, arith, length, take, drop, append-nil, append_assoc, length-drop, Result, Ok, Err, OkIff}
-use Rattle.cesu8_text.specs.Encoding.{Flavor}
+use Rattle.std.proofs.Common.{◌≡◌, ℕ, ◌+◌, ◌≤◌, Bool, true, false, true≢false, List, [], ◌++◌, refl, sym, ap, ◌∙◌, subst, arith, length, take, drop, append-nil, append_assoc, length-append, length-drop, take-append-drop, Result, Ok, Err, OkIff}
+use Rattle.std.proofs.lemmas.List.{length-take-le}
+use Rattle.cesu8_text.specs.Encoding.{Flavor, encoding}
+use Rattle.cesu8_text.specs.Text.{IsText}
 use Rattle.cesu8_bytes.specs.Pairs.{IsUtf8OfDigits, second_third_fifth_sixth, HasPair}
 use Rattle.cesu8_bytes.specs.Puts.{PutsAt}
 use Rattle.cesu8_bytes.specs.declared.strictness.Strictness.{Strictness}
 use Rattle.cesu8_bytes.specs.declared.strictness.Strictness.TheVariants.{Strict, Lossy}
 use Rattle.cesu8_decode.specs.Decoding.{IsDecoded, WritesDecoded, WritesReading, IsPass, GoesOn, most_written}
-use Rattle.cesu8_decode.specs.DecodedOffsets.{window_of}
+use Rattle.cesu8_decode.specs.DecodedOffsets.{window_of, decoded, is_boundary_at}
+use Rattle.cesu8_decode.specs.Following.{Unchanged}
+use Rattle.cesu8_decode.specs.Front.{IsFront}
 use Rattle.cesu8_decode.specs.declared.pass.windows.Pass.{Pass}
 use Rattle.cesu8_decode.proofs.by_offset.WindowOffsets.{Agree}
 use Rattle.cesu8_decode.proofs.by_offset.CharacterBoundaries.{boundary_of_zeros}
+use Rattle.cesu8_decode.proofs.chunks.DecodedUnchanged.{text_fine, boundary_after_text, text_decoded}
+use Rattle.cesu8_decode.proofs.chunks.UnchangedFronts.{in_utf8}
 use Rattle.cesu8_decode.proofs.chunks.DecodedPairs.{pair_fine, boundary_after_pair, pair_at_boundary}
 use Rattle.cesu8_decode.proofs.decoder.BlocksInPlace.{more_decoded, decoded_in, most_of_more, all_decoded, refused_decoded}
 
@@ -132,3 +138,57 @@ pair_goes_on f which bytes read end new_end is long has four old new is_utf8 siz
       inside = fits;
       len = put.writes.len;
     }
+
+-- ---- characters that are the same in UTF-8
+
+most_of_bytes : (which : Strictness) (n m : ℕ) → m + most_written which n ≤ most_written which (n + m)
+most_of_bytes Strict n m = omega arith
+most_of_bytes Lossy n m = omega arith
+
+-- The front of what comes next is copied.
+pub front_goes_on : (f : Flavor) (which : Strictness) (bytes part : List ℕ) (k read end len new_end : ℕ) → IsPass f bytes read → part ≡ take k (drop read bytes) →
+    IsFront Unchanged f part len → (old new : List ℕ) → PutsAt (take len part) end old new new_end → new_end ≤ length new →
+    GoesOn f which bytes (pass_at read end) (pass_at (read + len) new_end) old new
+front_goes_on f which bytes part k read end len new_end is part_is front old new put fits = record {
+  pass = λ _. record { within = inside; boundary = subst (λ m. is_boundary_at f (window_of bytes) (read + m) ≡ true) long (boundary_after_text f bytes read is.within is.boundary text more is_text rest_is) };
+  within = (omega arith, inside);
+  text = λ start before so_far.
+      more_decoded f which (window_of bytes) start _ _ read len false so_far
+      (behind_text f which (window_of bytes) before _ _ read len false (record {
+        bytes = λ _. put.writes.bytes ∙ ap (λ bs. take end old ++ bs) (sym decoded_is);
+        refused = λ never. absurd (true≢false (sym never));
+        lossy = λ _. refl;
+        strict = λ _ _ i from to. text_fine f bytes read is.within is.boundary text more is_text rest_is i from (omega (arith, to, long));
+      }));
+  end = omega (arith, put.writes.end, size, most_of_bytes which read len);
+  inside = fits;
+  len = put.writes.len;
+}
+  where
+    text : List ℕ
+    text = front.whole.text
+
+    more : List ℕ
+    more = drop len part ++ drop k (drop read bytes)
+
+    is_text : IsText text
+    is_text = front.whole.reads.0
+
+    size : length (take len part) ≡ len
+    size = length-take-le len part front.within
+
+    long : length (encoding f text) ≡ len
+    long = ap length front.whole.reads.1 ∙ size
+
+    rest_is : drop read bytes ≡ encoding f text ++ more
+    rest_is =
+        sym (take-append-drop k (drop read bytes)) ∙ ap (λ bs. bs ++ drop k (drop read bytes)) (sym part_is ∙ sym (take-append-drop len part))
+        ∙ append_assoc (take len part) (drop len part) (drop k (drop read bytes)) ∙ ap (λ bs. bs ++ more) (sym front.whole.reads.1)
+
+    inside : read + len ≤ length bytes
+    inside = omega (arith, is.within, length-drop read bytes, ap length rest_is, length-append (encoding f text) more, long)
+
+    decoded_is : decoded f (window_of bytes) read len ≡ take len part
+    decoded_is =
+        ap (decoded f (window_of bytes) read) (sym long) ∙ text_decoded f bytes read is.within is.boundary text more is_text rest_is
+        ∙ in_utf8 f (take len part) front.whole

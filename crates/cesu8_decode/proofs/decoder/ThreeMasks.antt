@@ -1,11 +1,11 @@
 -- Masks of characters of three bytes and of surrogate pairs, from those of classes.
-use Rattle.std.proofs.Common.{◌≡◌, ℕ, ◌+◌, ◌/◌, ◌^◌, ◌<◌, eqb, List, get_or, bit_and, bit_or, ap, sym, ◌∙◌, arith, w64}
+use Rattle.std.proofs.Common.{◌≡◌, ℕ, ◌+◌, ◌/◌, ◌^◌, ◌<◌, eqb, false, ◌&&◌, ◌||◌, List, get_or, bit_and, bit_or, ap, sym, ◌∙◌, arith, w64}
 use Rattle.std.specs.Int.{bit_not}
 use Rattle.std.proofs.lemmas.Nat.{and_le_l, or_lt}
 use Rattle.cesu8_decode.specs.DecodedOffsets.{continues, pair_at}
 use Rattle.cesu8_decode.specs.Masks.{HasBits, has_bit_below, is_long_lead_at, is_three_at, is_six_at}
 use Rattle.cesu8_decode.proofs.decoder.MaskBits.{told_by, and_bits, or_bits, without_bits, later_bits, no_bits, none_set}
-use Rattle.cesu8_decode.proofs.decoder.MaskTests.{whole_by, surrogate_by, pair_by, three_bits, pair_bits, no_surrogate, no_lead_no_three, no_lead_no_pair}
+use Rattle.cesu8_decode.proofs.decoder.MaskTests.{whole_by, plain_three, plain_not_pair, surrogate_by, pair_by, three_bits, pair_bits, no_surrogate, no_lead_no_three, no_lead_no_pair}
 
 -- The masks that the code computes:
 abbrev pub whole_of : (leads second odd : ℕ) → ℕ
@@ -31,23 +31,40 @@ module _ (xs : List ℕ) (leads second wide odd led lowest : ℕ) (small : (i : 
   no_pairs none of_leads =
       told_by (is_six_at xs) (λ i. sym (no_lead_no_pair (x i) (x (i + 1)) (x (i + 2)) (x (i + 3)) (x (i + 4)) (x (i + 5)) (none_set none of_leads i))) no_bits
 
+  -- Bytes that pass all tests but those of the second byte:
+  pub whole_bits : HasBits leads (is_long_lead_at xs) → HasBits second (λ i. continues (x (i + 1))) → HasBits odd (λ i. has_bit_below 3 (x i)) →
+      leads < 2 ^ 64 → odd < 2 ^ 64 → HasBits (whole_of leads second odd) (λ i. whole_by (x i) (x (i + 1)) (x (i + 2)) (has_bit_below 3 (x i)))
+  whole_bits of_leads of_second of_odd leads_fit odd_fits =
+      let third = told_by (λ i. continues (x (i + 2))) (λ i. let offset : i + 1 + 1 ≡ i + 2 = omega arith in ap (λ j. continues (x j)) offset) (later_bits 1 of_second) in
+      without_bits (and_fits leads (second / 2) leads_fit) odd_fits (and_bits of_leads third) of_odd
+
+  -- if neither E0 nor ED leads one, they are all characters of three bytes, and no pair is among them.
+  module _ (special : ℕ) (of_whole : HasBits (whole_of leads second odd) (λ i. whole_by (x i) (x (i + 1)) (x (i + 2)) (has_bit_below 3 (x i))))
+      (of_special : HasBits special (λ i. eqb (x i) 0xE0 || eqb (x i) 0xED)) (none : bit_and (whole_of leads second odd) special ≡ 0) where
+    plain : (i : ℕ) → (whole_by (x i) (x (i + 1)) (x (i + 2)) (has_bit_below 3 (x i)) && (eqb (x i) 0xE0 || eqb (x i) 0xED)) ≡ false
+    plain = none_set none (and_bits of_whole of_special)
+
+    pub plain_threes : HasBits (whole_of leads second odd) (is_three_at xs)
+    plain_threes = told_by (is_three_at xs) (λ i. plain_three (x i) (x (i + 1)) (x (i + 2)) (small i) (small (i + 1)) (plain i)) of_whole
+
+    pub plain_no_pairs : HasBits 0 (is_six_at xs)
+    plain_no_pairs =
+        told_by (is_six_at xs) (λ i. sym (plain_not_pair (x i) (x (i + 1)) (x (i + 2)) (small i) (small (i + 1)) (x (i + 3)) (x (i + 4)) (x (i + 5)) (plain i))) no_bits
+
   module _ (of_leads : HasBits leads (is_long_lead_at xs)) (of_second : HasBits second (λ i. continues (x (i + 1))))
       (of_wide : HasBits wide (λ i. has_bit_below 2 (x i))) (of_odd : HasBits odd (λ i. has_bit_below 3 (x i)))
       (of_led : HasBits led (λ i. eqb (x i) 0xED)) (of_lowest : HasBits lowest (λ i. eqb (x i) 0xE0))
       (leads_fit : leads < 2 ^ 64) (wide_fits : wide < 2 ^ 64) (odd_fits : odd < 2 ^ 64) (led_fits : led < 2 ^ 64) (lowest_fits : lowest < 2 ^ 64) where
-    -- Bytes that pass all tests but those of the second byte,
-    whole_bits : HasBits (whole_of leads second odd) (λ i. whole_by (x i) (x (i + 1)) (x (i + 2)) (has_bit_below 3 (x i)))
-    whole_bits =
-        let third = told_by (λ i. continues (x (i + 2))) (λ i. let offset : i + 1 + 1 ≡ i + 2 = omega arith in ap (λ j. continues (x j)) offset) (later_bits 1 of_second) in
-        without_bits (and_fits leads (second / 2) leads_fit) odd_fits (and_bits of_leads third) of_odd
+    of_whole : HasBits (whole_of leads second odd) (λ i. whole_by (x i) (x (i + 1)) (x (i + 2)) (has_bit_below 3 (x i)))
+    of_whole = whole_bits of_leads of_second of_odd leads_fit odd_fits
 
     whole_fits : whole_of leads second odd < 2 ^ 64
     whole_fits = and_fits (bit_and leads (second / 2)) (bit_not w64 odd) (and_fits leads (second / 2) leads_fit)
 
-    -- surrogates,
+    -- Surrogates,
     surrogate_mask : HasBits (surrogates_of leads second wide odd led)
         (λ i. surrogate_by (x i) (x (i + 1)) (x (i + 2)) (has_bit_below 3 (x i)) (has_bit_below 2 (x (i + 1))))
-    surrogate_mask = and_bits (and_bits whole_bits (later_bits 1 of_wide)) of_led
+    surrogate_mask = and_bits (and_bits of_whole (later_bits 1 of_wide)) of_led
 
     surrogates_fit : surrogates_of leads second wide odd led < 2 ^ 64
     surrogates_fit = and_fits (bit_and (whole_of leads second odd) (wide / 2)) led (and_fits (whole_of leads second odd) (wide / 2) whole_fits)
@@ -56,7 +73,7 @@ module _ (xs : List ℕ) (leads second wide odd led lowest : ℕ) (small : (i : 
     pub threes_are : HasBits (bit_and (whole_of leads second odd) (bit_not w64 (bit_or (surrogates_of leads second wide odd led) (bit_and lowest (bit_not w64 (wide / 2)))))) (is_three_at xs)
     threes_are =
         told_by (is_three_at xs) (λ i. three_bits (x i) (x (i + 1)) (x (i + 2)) (small i) (small (i + 1)))
-        (without_bits whole_fits (or_lt 64 _ _ surrogates_fit (and_fits lowest (bit_not w64 (wide / 2)) lowest_fits)) whole_bits
+        (without_bits whole_fits (or_lt 64 _ _ surrogates_fit (and_fits lowest (bit_not w64 (wide / 2)) lowest_fits)) of_whole
         (or_bits surrogate_mask (without_bits lowest_fits (omega arith) of_lowest (later_bits 1 of_wide))))
 
     -- and pairs, of which there is none without a surrogate.

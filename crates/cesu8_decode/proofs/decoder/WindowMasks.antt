@@ -17,7 +17,7 @@ use Rattle.cesu8_decode.specs.DecodedOffsets.{one_at, three_at, pair_at, first_w
 use Rattle.cesu8_decode.specs.Masks.{HasBits, Marks, AreMasks, IsWindow, is_other_at, is_two_at, is_three_at, is_pair_at, is_null_at}
 use Rattle.cesu8_decode.specs.declared.lanes.masks.Masks.{Masks}
 use Rattle.cesu8_decode.specs.declared.lanes.windows.Window.{Window}
-use Rattle.cesu8_decode.proofs.by_offset.WindowOffsets.{Agree, follows_zeros, width_agrees}
+use Rattle.cesu8_decode.proofs.by_offset.WindowOffsets.{follows_zeros, width_agrees}
 use Rattle.cesu8_decode.proofs.by_offset.CharacterBoundaries.{boundary_ends, boundary_where, ends_before, width_bounds}
 use Rattle.cesu8_decode.proofs.by_offset.WidthTests.{width_tells}
 use Rattle.cesu8_decode.proofs.by_offset.IllFormed.{reached, not_reached}
@@ -47,7 +47,7 @@ less_than_all x small none =
     absurd (omega (arith, none, ap (λ n. bit_at n 5) is, bit_at_ones 64 5 (omega arith))))
     (cases_lt x (2 ^ 64 - 1))
 
-marks_below : (n a : ℕ) → n ≤ 64 → a < 2 ^ n → a < 2 ^ 64
+pub marks_below : (n a : ℕ) → n ≤ 64 → a < 2 ^ n → a < 2 ^ 64
 marks_below n a few small =
     ⊎_elim (λ (same : n ≡ 64). subst (λ k. a < 2 ^ k) same small) (λ (less : n < 64). omega (arith, small, pow-lt less)) (eq-or-lt_of_le few)
 
@@ -270,7 +270,7 @@ module _ (f : Flavor) (bytes : List ℕ) (at n : ℕ) (boundary : is_boundary_at
   no_ends all = record { inside = λ i from to. absurd (omega arith); stop = λ within. absurd (omega arith); few = omega arith; fits = omega arith }
 
   -- The rest of the last character is in the bytes that it covers.
-  module _ (r : ℕ) (ends : Ends r) (long : at + 64 ≤ length bytes) where
+  module _ (r : ℕ) (ends : Ends r) where
     pub rest : (p : ℕ) → at + n ≤ p → p < at + (n + r) → (width_at f bytes p ≡ 0) × (is_ill_formed_at f (window_of bytes) p ≡ false)
     rest p from to =
         let i = p - at in
@@ -280,9 +280,13 @@ module _ (f : Flavor) (bytes : List ℕ) (at n : ℕ) (boundary : is_boundary_at
         let part = reach_fits i (from_covered f bytes at n i set) in
         let s = part.0 in
         let there = width_there f bytes (at + (i - s)) (at + (i - s) + 5) refl in
-        let here = width_there f bytes p (p + 5) refl in (
+        let here = width_there f bytes p (p + 5) refl in
+        let inside : p < length bytes = ⊎_elim (λ (within : p < length bytes). within)
+        (λ (past : length bytes ≤ p).
+        absurd (omega (arith, ends_at_zero f bytes (at + (i - s)) p (omega (arith, part)) (get_or_past bytes p 0 past), part.3, part.1)))
+        (cases_lt p (length bytes)) in (
           ⊎_elim (λ (some : 0 < width_at f bytes p).
-              absurd (omega (arith, ends_before f (window_of bytes) bytes (at + (i - s)) p (follows_zeros bytes) (omega (arith, part)) (omega arith) (omega (arith, here, some)), there, part.3, part.1)))
+              absurd (omega (arith, ends_before f (window_of bytes) bytes (at + (i - s)) p (follows_zeros bytes) (omega (arith, part)) inside (omega (arith, here, some)), there, part.3, part.1)))
               (λ (none : width_at f bytes p ≤ 0). omega arith) (cases_lt 0 (width_at f bytes p)),
           ap (is_ill_formed_at f (window_of bytes)) (sym place) ∙ not_ill i set,
         )
@@ -308,29 +312,32 @@ module _ (f : Flavor) (bytes : List ℕ) (at n : ℕ) (boundary : is_boundary_at
 
 -- ---- the window of a vector
 
-module _ (f : Flavor) (bytes : List ℕ) (at n r : ℕ) (masks : Masks) (long : at + 64 ≤ length bytes) (boundary : is_boundary_at f (window_of bytes) at ≡ true)
-    (count : (n ≤ 59) ⊎ ((n ≤ 64) × ((i : ℕ) → at + 64 ≤ i → i < at + 64 + 5 → get_or bytes i 0 ≡ 0))) (given : AreMasks f (chunk at 64 bytes) 0 n masks) where
-  pub few : n ≤ 64
-  few = ⊎_elim (λ (few : n ≤ 59). omega arith) (λ ends. ends.0) count
+-- A vector is read like the bytes that it is of, as far as characters at its first n offsets reach: it
+-- has five bytes after these offsets, or zeros follow it.
+pub loaded_alike : (bytes : List ℕ) (at n : ℕ) → at + 64 ≤ length bytes →
+    (n ≤ 59) ⊎ ((n ≤ 64) × ((i : ℕ) → at + 64 ≤ i → i < at + 64 + 5 → get_or bytes i 0 ≡ 0)) →
+    (i : ℕ) → i < n + 5 → get_or (chunk at 64 bytes) i 0 ≡ get_or bytes (at + i) 0
+loaded_alike bytes at n long count k small =
+    ⊎_elim (λ (inside : k < 64). get_or-chunk at 64 bytes k 0 inside)
+    (λ (past : 64 ≤ k).
+    get_or_past (chunk at 64 bytes) k 0 (omega (arith, length-chunk at 64 bytes long))
+    ∙ sym (⊎_elim (λ (few : n ≤ 59). absurd (omega arith))
+    (λ (ends : (n ≤ 64) × ((i : ℕ) → at + 64 ≤ i → i < at + 64 + 5 → get_or bytes i 0 ≡ 0)). ends.1 (at + k) (omega arith) (omega (arith, ends.0))) count))
+    (cases_lt k 64)
 
-  agree : Agree (chunk at 64 bytes) bytes 0 at (n + 5)
-  agree k small =
-      ⊎_elim (λ (inside : k < 64). ap (λ i. get_or (chunk at 64 bytes) i 0) (zero-add k) ∙ get_or-chunk at 64 bytes k 0 inside)
-      (λ (past : 64 ≤ k).
-      get_or_past (chunk at 64 bytes) (0 + k) 0 (omega (arith, length-chunk at 64 bytes long))
-      ∙ sym (⊎_elim (λ (few : n ≤ 59). absurd (omega arith))
-      (λ (ends : (n ≤ 64) × ((i : ℕ) → at + 64 ≤ i → i < at + 64 + 5 → get_or bytes i 0 ≡ 0)). ends.1 (at + k) (omega arith) (omega (arith, ends.0))) count))
-      (cases_lt k 64)
-
+module _ (f : Flavor) (lanes bytes : List ℕ) (at n r : ℕ) (masks : Masks) (short : length lanes ≤ 64) (few : n ≤ 64)
+    (alike : (i : ℕ) → i < n + 5 → get_or lanes i 0 ≡ get_or bytes (at + i) 0) (boundary : is_boundary_at f (window_of bytes) at ≡ true)
+    (given : AreMasks f lanes 0 n masks) where
   are : AreMasks f bytes at n masks
-  are = masks_moved f (chunk at 64 bytes) bytes at n masks agree given
+  are = masks_moved f lanes bytes at n masks (λ k small. ap (λ i. get_or lanes i 0) (zero-add k) ∙ alike k small) given
 
+  -- Each character that begins at those offsets ends within 64 bytes.
   whole : (i : ℕ) → i < n → i + width_at f bytes (at + i) ≤ 64
   whole i inside =
-      ⊎_elim (λ (few : n ≤ 59). ⊎_elim (λ (low : width_at f bytes (at + i) ≤ 3). omega arith) (λ (six : width_at f bytes (at + i) ≡ 6). omega arith) (widths f bytes at n i))
-      (λ (ends : (n ≤ 64) × ((i : ℕ) → at + 64 ≤ i → i < at + 64 + 5 → get_or bytes i 0 ≡ 0)).
-      omega (arith, ends_at_zero f bytes (at + i) (at + 64) (omega (arith, ends.0)) (ends.1 (at + 64) (omega arith) (omega arith))))
-      count
+      ⊎_elim (λ (less : n < 60). ⊎_elim (λ (low : width_at f bytes (at + i) ≤ 3). omega arith) (λ (six : width_at f bytes (at + i) ≡ 6). omega arith) (widths f bytes at n i))
+      (λ (many : 60 ≤ n).
+      omega (arith, ends_at_zero f bytes (at + i) (at + 64) (omega arith) (sym (alike 64 (omega arith)) ∙ get_or_past lanes 64 0 short)))
+      (cases_lt n 60)
 
   abbrev threes : ℕ
   threes = bit_or (bit_or masks.threes masks.pairs) (masks.pairs * 2 ^ 3 % 2 ^ 64)
@@ -392,8 +399,8 @@ module _ (f : Flavor) (bytes : List ℕ) (at n r : ℕ) (masks : Masks) (long : 
       nulls = are.nulls;
       len = (omega arith, omega (arith, ends.few));
       fits = ends.fits;
-      rest = rest f bytes at n boundary r ends long;
-      boundary = boundary_after f bytes at n boundary r ends long whole;
+      rest = rest f bytes at n boundary r ends;
+      boundary = boundary_after f bytes at n boundary r ends whole;
     },
     refl,
   )

@@ -9,15 +9,16 @@ ghost use Rattle.cesu8_text.specs.Reading.{HasNoStrictReading};
 ghost use Rattle.cesu8_bytes.specs.TextChunks.{IsReadSoFar};
 ghost use Rattle.cesu8_bytes.specs.declared.strictness.Strictness.TheVariants.{Strict};
 ghost use Rattle.cesu8_decode.specs.Decoding.{AppendsReading};
-ghost use Rattle.cesu8_decode.specs.Following.{Unchanged as AllUnchanged, HasStops};
-ghost use Rattle.cesu8_decode.specs.Front.{IsFront};
+ghost use Rattle.cesu8_decode.specs.Following.{Unchanged as AllUnchanged};
+ghost use Rattle.cesu8_decode.specs.Front.{IsFront, IsPartialFront};
 
 use super::chunks::append_chunks;
 use crate::changed::{changes, prefix_of};
-use crate::front::{front, may_be_crossed};
+use crate::front::few::front_of_few;
+use crate::front::{FoundFront, front_of_many, may_be_crossed};
 use crate::lanes::character_set::Unchanged;
-use crate::lanes::stops::stops_of_few;
-use crate::pass::strict_few::{STRICT_TEXT, write_few_strictly};
+use crate::pass::few::write_few;
+use crate::pass::windows::FEW_STRICT;
 use crate::way::{FEW_BYTES, are_few};
 use cesu8_bytes::flavor::Flavor;
 use cesu8_bytes::pairs::{PAIR, PAIR_READ, utf8_of_pair};
@@ -31,9 +32,9 @@ const FRONT: usize = 16;
 /// if they stand closer together, windows take less time.
 const LONG_FRONT: usize = 64;
 
-/// Appends the strict reading of more than a few bytes, of which `len` at the front stay in UTF-8:
-/// from one character that changes to the next, while they stand far apart; a rest goes by stops if
-/// it is few, else by windows. It is not inlined, so that few bytes have few registers to save.
+/// Appends the strict reading of more than 64 bytes, of which `len` at the front are the same in
+/// UTF-8. It goes from one character that changes to the next, as long as they stand far apart, and
+/// windows read the rest. It is not inlined, so that at most 64 bytes have few registers to save.
 #[inline(never)]
 pub fn append_many<F: Flavor>(bytes: &[u8], len: usize, before: Vec<u8>) -> Result<Vec<u8>, NoText>
     requires many { FEW_BYTES < length bytes.now }
@@ -49,7 +50,7 @@ pub fn append_many<F: Flavor>(bytes: &[u8], len: usize, before: Vec<u8>) -> Resu
         let is_long = least <= len;
         rest = append_to_next::<F>(rest, len, &mut text)?;
         if are_few(rest) {
-            return append_few_strictly::<F>(rest, stops_of_few::<F, Unchanged>(rest), text);
+            return append_rest::<F>(rest, text);
         }
         if !is_long {
             // What is cut off at the end is refused before all of it is read.
@@ -58,27 +59,44 @@ pub fn append_many<F: Flavor>(bytes: &[u8], len: usize, before: Vec<u8>) -> Resu
             }
             return append_chunks::<F, StrictReading>(rest, text);
         }
-        len = front::<F, Unchanged>(rest).len;
+        len = front_of_many::<F, Unchanged>(rest);
         least = LONG_FRONT;
     }
     append(rest, &mut text);
     Ok(text)
 }
 
-/// Appends the strict reading of a few bytes by an array, and by `stops`, the set of those that may
-/// not follow those before them in text that stays.
+/// Appends the strict reading of the last bytes, at most 64.
 #[inline(always)]
-pub fn append_few_strictly<F: Flavor>(
-    bytes: &[u8],
-    stops: u64,
-    before: Vec<u8>,
-) -> Result<Vec<u8>, NoText>
-    requires stops { HasStops AllUnchanged F.flavor bytes.now stops }
+fn append_rest<F: Flavor>(bytes: &[u8], before: Vec<u8>) -> Result<Vec<u8>, NoText>
+    requires few { length bytes.now ≤ FEW_BYTES }
     requires room { vec_len before + length bytes.now ≤ vec_capacity before }
     ensures { AppendsReading F.flavor Strict bytes.now before result }
 {
-    let mut written = [0; STRICT_TEXT];
-    let end = write_few_strictly::<F>(bytes, stops, &mut written)?;
+    let front = front_of_few::<F>(bytes);
+    if front.len < bytes.len() {
+        return append_few_strictly::<F>(bytes, front, before);
+    }
+    let mut text = before;
+    append_few(bytes, &mut text);
+    Ok(text)
+}
+
+/// Appends the strict reading of at most 64 bytes, which is written to an array first. `front` is
+/// their front, which is not all of them.
+#[inline(always)]
+pub fn append_few_strictly<F: Flavor>(
+    bytes: &[u8],
+    front: FoundFront,
+    before: Vec<u8>,
+) -> Result<Vec<u8>, NoText>
+    requires few { length bytes.now ≤ FEW_BYTES }
+    requires front { IsPartialFront F.flavor bytes.now front }
+    requires room { vec_len before + length bytes.now ≤ vec_capacity before }
+    ensures { AppendsReading F.flavor Strict bytes.now before result }
+{
+    let mut written = [0; FEW_STRICT];
+    let end = write_few::<F, StrictReading>(bytes, front, &mut written)?;
     let mut text = before;
     append_few(&written[..end], &mut text);
     Ok(text)

@@ -17,7 +17,7 @@ use super::fronts::{append_few_strictly, append_many};
 use crate::changed::may_lead_changed;
 use crate::front::FoundFront;
 use crate::lengths::lossy_len;
-use crate::pass::strict_few::{STRICT_TEXT, write_few_strictly};
+use crate::pass::few::write_few;
 use crate::pass::windows::{FEW_LOSSY, LARGE_LOSSY, LARGEST_LOSSY, SMALL_LOSSY, write_all};
 use crate::way::{FEW_BYTES, LARGEST_ARRAY, Way, are_few, way_of};
 use cesu8_bytes::BLOCK;
@@ -26,7 +26,8 @@ use cesu8_bytes::strictness::{LossyReading, NoText};
 use cesu8_bytes::writing::copies::{append, copy};
 use std::alloc::{AllocError, Global};
 
-/// Writes the strict reading of bytes, of which `len` in front, not all, stay, to an empty vector.
+/// Writes the strict reading of the bytes to an empty vector. `front` is their front, which is not
+/// all of them.
 #[inline(always)]
 pub fn write_strictly<F: Flavor>(
     bytes: &[u8],
@@ -37,18 +38,21 @@ pub fn write_strictly<F: Flavor>(
     requires empty { (empty.items ≡ []) × (length bytes.now ≤ vec_capacity empty) }
     ensures { AppendsReading F.flavor Strict bytes.now empty result }
 {
+    if are_few(bytes) {
+        if front.changed == 0 {
+            return Err(NoText);
+        }
+        return append_few_strictly::<F>(bytes, front, empty);
+    }
     if !may_lead_changed(bytes[front.len]) {
         return Err(NoText);
-    }
-    if are_few(bytes) {
-        // `stops` holds for at most 64 bytes alone. They are read whole: to copy a front is slower.
-        return append_few_strictly::<F>(bytes, front.stops, empty);
     }
     write_many::<F>(bytes, front.len, empty)
 }
 
-/// Does so for more than a few bytes, `front` of which stay. It is apart for speed alone: where a
-/// function starts, even an inlined one, it clears room for its calls' results. Few bytes skip it.
+/// Writes the strict reading of more than 64 bytes, of which `front` are the same in UTF-8. It is a
+/// function of its own for speed alone: a function, even an inlined one, first clears room for the
+/// results of its calls, and at most 64 bytes need not wait for that.
 #[inline(always)]
 fn write_many<F: Flavor>(bytes: &[u8], front: usize, empty: Vec<u8>) -> Result<Vec<u8>, NoText>
     requires many { FEW_BYTES < length bytes.now }
@@ -69,20 +73,29 @@ pub fn build_lossily<F: Flavor>(
     requires { IsPartialFront F.flavor bytes.now front }
     ensures { BuildsReading F.flavor bytes.now result }
 {
-    // A few bytes take the time of strict reading where none is ill-formed.
-    if are_few(bytes) && may_lead_changed(bytes[front.len]) {
-        let mut written = [0; STRICT_TEXT];
-        if let Ok(end) = write_few_strictly::<F>(bytes, front.stops, &mut written) {
-            return copy(alloc, &written[..end]);
-        }
-    }
     match way_of(bytes) {
-        Way::Few => build_by_array::<F, FEW_LOSSY>(alloc, bytes),
+        Way::Few => build_few::<F>(alloc, bytes, front),
         Way::SmallArray => build_by_array::<F, SMALL_LOSSY>(alloc, bytes),
         Way::LargeArray => build_by_array::<F, LARGE_LOSSY>(alloc, bytes),
         Way::LargestArray => build_by_array::<F, LARGEST_LOSSY>(alloc, bytes),
         Way::Chunks => build_chunks::<F>(alloc, bytes),
     }
+}
+
+/// Returns the lossy reading of at most 64 bytes. Not inlined, so only a call clears the array.
+#[inline(never)]
+fn build_few<F: Flavor>(
+    alloc: Global,
+    bytes: &[u8],
+    front: FoundFront,
+) -> Result<Vec<u8>, AllocError>
+    requires few { length bytes.now ≤ FEW_BYTES }
+    requires front { IsPartialFront F.flavor bytes.now front }
+    ensures { BuildsReading F.flavor bytes.now result }
+{
+    let mut written = [0; FEW_LOSSY];
+    let Ok(end) = write_few::<F, LossyReading>(bytes, front, &mut written);
+    copy(alloc, &written[..end])
 }
 
 /// Returns the lossy reading, by an array with room for it. Not inlined, so only a call clears it.

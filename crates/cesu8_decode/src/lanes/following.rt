@@ -9,7 +9,7 @@ ghost use Rattle.std.specs.Prelude.{◌≡◌, ℕ, List, ◌+◌, ◌*◌, ◌-
 ghost use Rattle.std.specs.List.{range_with_len};
 ghost use Rattle.std.specs.Simd.Lanes.{zip2};
 ghost use Rattle.cesu8_bytes.specs.Kernels.{mask};
-ghost use Rattle.cesu8_decode.specs.Following.{CharacterSet as AnySet, has_changed, shown, wanted, follows_at, AllFollow, AreStops, IsBlockAt};
+ghost use Rattle.cesu8_decode.specs.Following.{CharacterSet as AnySet, has_changed, shown, wanted, follows_at, AllFollow, IsBlockAt};
 
 use super::character_set::{Block, CharacterSet, DECIDING};
 use super::tables::{FROM_28, FROM_29, FROM_30, FROM_31, HighestBit, common_bits};
@@ -44,15 +44,6 @@ pub fn following_len<F: Flavor, S: CharacterSet>(block: Block) -> usize
         → follows_at S.set F.flavor window (at + result) ≡ false }
 {
     lanes_before::<HighestBit, BLOCK>(misplaced::<F, S>(block))
-}
-
-/// Returns the set of a block's bytes that may not follow those before them.
-#[inline(always)]
-pub fn stops<F: Flavor, S: CharacterSet>(block: Block) -> u64
-    ensures { (window : List ℕ) (at : ℕ) → IsBlockAt S.set window at block
-        → AreStops S.set F.flavor window at BLOCK result }
-{
-    bits::<HighestBit, BLOCK>(misplaced::<F, S>(block))
 }
 
 /// Returns whether each of the 64 bytes from an offset on may follow those before it.

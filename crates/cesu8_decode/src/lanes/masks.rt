@@ -17,7 +17,7 @@ ghost use Rattle.cesu8_decode.specs.Masks.{
 };
 
 use cesu8_bytes::flavor::Flavor;
-use cesu8_bytes::lanes::class::{AtLeast, Equal, LANES, NonAscii, Null, bits};
+use cesu8_bytes::lanes::class::{AtLeast, Either, Equal, LANES, NonAscii, Null, bits};
 use std::simd::prelude::*;
 
 /// What begins at so many offsets of 64 bytes lies within them, since no character is longer than
@@ -145,10 +145,14 @@ fn threes_and_pairs<const N: usize>(
     if leads == 0 {
         return (0, 0);
     }
-    let next_wide = wide >> 1;
     // With the bit 10 lead bytes are F0 or more, and those of A0 or more are B0 or more.
     let odd = bits_below::<N>(lanes, 3);
     let whole = leads & (second >> 1) & !odd;
+    // After other lead bytes any continuation byte may be the second.
+    if whole & bits::<Either<Equal<0xE0>, Equal<0xED>>, N>(lanes) == 0 {
+        return (whole, 0);
+    }
+    let next_wide = wide >> 1;
     let surrogates = whole & next_wide & bits::<Equal<0xED>, N>(lanes);
     let overlong = bits::<Equal<0xE0>, N>(lanes) & !next_wide;
     let threes = whole & !(surrogates | overlong);

@@ -4,14 +4,17 @@
 //! tell which bytes are covered. The next window begins where the last character ends, so no
 //! window needs to know anything of the one before it.
 
-ghost use Rattle.std.specs.Prelude.{◌≡◌, ℕ, ◌+◌, ◌<◌, ◌≤◌, ◌⊎◌, true, length, slice_index};
+ghost use Rattle.std.specs.Prelude.{◌≡◌, ℕ, List, ◌+◌, ◌<◌, ◌≤◌, ◌⊎◌, true, length, slice_index};
 ghost use Rattle.cesu8_decode.specs.DecodedOffsets.{is_boundary_at, window_of};
 ghost use Rattle.cesu8_decode.specs.Masks.{IsWindow};
 
 pub use super::masks::STEP;
 use super::masks::masks_of;
+use super::padded::padded;
+use cesu8_bytes::BLOCK;
 use cesu8_bytes::flavor::Flavor;
 use cesu8_bytes::lanes::class::LANES;
+use cesu8_bytes::lanes::padded::padded_half;
 use std::simd::prelude::*;
 
 /// What changes among the bytes of a window, as masks, and how many bytes these are.
@@ -37,7 +40,35 @@ pub fn window_at<F: Flavor>(bytes: &[u8], at: usize, count: usize) -> Window
     ensures window { (is : IsWindow F.flavor bytes.now at result) × (is.n ≡ count) }
     ensures count { (count ≤ result.len) × (result.len ≤ count + 5) }
 {
-    let masks = masks_of::<F, LANES>(u8x64::from_slice(&bytes[at..]), count);
+    window_of_lanes::<F, LANES>(u8x64::from_slice(&bytes[at..]), count)
+}
+
+/// Returns the window of at most 64 bytes, which are all. Up to 32 are one vector of half the
+/// length.
+#[inline(always)]
+pub fn window_of_few<F: Flavor>(bytes: &[u8]) -> Window
+    requires { length bytes.now ≤ LANES }
+    ensures window { (is : IsWindow F.flavor bytes.now 0 result) × (is.n ≡ length bytes.now) }
+    ensures len { result.len ≡ length bytes.now }
+{
+    if bytes.len() <= BLOCK {
+        return window_of_lanes::<F, BLOCK>(padded_half(bytes), bytes.len());
+    }
+    window_of_lanes::<F, LANES>(padded(bytes), bytes.len())
+}
+
+/// Returns the window of the characters that begin at the first `count` lanes. Zeros follow the
+/// last lane. It is the window at a boundary of any bytes that are the same as far as they reach.
+#[inline(always)]
+fn window_of_lanes<F: Flavor, const N: usize>(lanes: Simd<u8, N>, count: usize) -> Window
+    requires lanes { N ≤ LANES }
+    requires count { count ≤ N }
+    ensures { (bytes : List ℕ) → (at : ℕ)
+        → ((i : ℕ) → i < count + 5 → slice_index lanes.entry i ≡ slice_index bytes (at + i))
+        → is_boundary_at F.flavor (window_of bytes) at ≡ true
+        → (is : IsWindow F.flavor bytes at result) × (is.n ≡ count) }
+{
+    let masks = masks_of::<F, N>(lanes, count);
     // A surrogate pair covers what two characters of three bytes do.
     let threes = masks.threes | masks.pairs | (masks.pairs << 3);
     let begins = masks.twos | masks.nulls | threes;

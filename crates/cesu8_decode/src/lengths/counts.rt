@@ -3,15 +3,15 @@
 //! Each character saves some bytes, by its width, and an ill-formed byte saves none. So the masks
 //! of what begins at each offset give the sum, by how many of their bits are set.
 
-ghost use Rattle.std.specs.Prelude.{◌≡◌, ◌+◌, ◌-◌, ◌*◌, ◌<◌, ◌≤◌, ◌++◌, length, drop};
+ghost use Rattle.std.specs.Prelude.{◌≡◌, ◌+◌, ◌-◌, ◌*◌, ◌<◌, ◌≤◌, length, drop};
 ghost use Rattle.cesu8_decode.specs.DecodedOffsets.{total_saved, saved_between};
 
 use crate::lanes::masks::{STEP, masks_of};
+use crate::lanes::padded::padded;
 use cesu8_bytes::BLOCK;
 use cesu8_bytes::flavor::Flavor;
 use cesu8_bytes::lanes::class::LANES;
 use cesu8_bytes::lanes::padded::padded_half;
-use cesu8_bytes::writing::put::put_lanes;
 use std::simd::prelude::*;
 
 /// Returns what at most 64 bytes save.
@@ -23,20 +23,7 @@ pub fn saved_by_few<F: Flavor>(bytes: &[u8]) -> usize
     if bytes.len() <= BLOCK {
         return saved_by_lanes::<F, BLOCK>(padded_half(bytes), 0, bytes.len());
     }
-    let second = padded_half(&bytes[BLOCK..]);
-    let lanes = joined(u8x32::from_slice(bytes), second);
-    saved_by_lanes::<F, LANES>(lanes, 0, bytes.len())
-}
-
-/// Returns two blocks, one after the other.
-#[inline(always)]
-fn joined(first: u8x32, second: u8x32) -> u8x64
-    ensures { result ≡ first ++ second }
-{
-    let mut bytes = [0; LANES];
-    put_lanes(first, &mut bytes, 0);
-    put_lanes(second, &mut bytes, BLOCK);
-    u8x64::from_array(bytes)
+    saved_by_lanes::<F, LANES>(padded(bytes), 0, bytes.len())
 }
 
 /// Returns what the next offsets save, as many as are whole in a vector.

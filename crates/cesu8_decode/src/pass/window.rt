@@ -31,6 +31,8 @@ pub struct Written {
     pub read: usize,
     pub end: usize,
     pub is_refused: bool,
+    /// Whether the bytes are written as they are.
+    pub is_unchanged: bool,
 }
 
 /// Writes what becomes of the next `count` bytes, and of the last bytes of a character that begins
@@ -53,6 +55,7 @@ pub fn write_window<F: Flavor, S: Reading>(
     ensures boundary { is_boundary_at F.flavor (window_of bytes.now) (at + result.read) ≡ true }
     ensures count { (count ≤ result.read) × (result.read ≤ count + READ_AFTER) × (result.read ≤ LANES) }
     ensures last { slice_index bytes.now (at + count) ≡ 0 → result.read ≡ count }
+    ensures unchanged { result.is_unchanged ≡ true → result.is_refused ≡ false }
 {
     let window = window_at::<F>(bytes, at, count);
     if window.ill_formed != 0 && matches!(S::strictness(), Strictness::Strict) {
@@ -60,11 +63,13 @@ pub fn write_window<F: Flavor, S: Reading>(
             read: window.len,
             end,
             is_refused: true,
+            is_unchanged: false,
         };
     }
     Written {
         read: window.len,
         end: write_events::<F, S>(bytes, at, window, out, end),
         is_refused: false,
+        is_unchanged: window.ill_formed | window.pairs | window.nulls == 0,
     }
 }

@@ -8,9 +8,11 @@
 ghost use Rattle.std.specs.Prelude.{◌≡◌, ℕ, ◌+◌, ◌-◌, ◌*◌, ◌<◌, ◌≤◌, false, length};
 ghost use Rattle.cesu8_decode.specs.Decoding.{IsPass, GoesOn, WritesReading, pass_from, room_for};
 
-use super::strict_few::load;
 use super::window::{READ_AFTER, ROOM, WIDEST, write_window};
+use crate::front::front_of_many;
+use crate::lanes::character_set::Unchanged;
 use crate::lanes::windows::STEP;
+use crate::pass::events::STORED_AFTER;
 use crate::way::{FEW_BYTES, LARGE_ARRAY, LARGEST_ARRAY, SMALL_ARRAY, are_few};
 use cesu8_bytes::flavor::Flavor;
 use cesu8_bytes::lanes::class::LANES;
@@ -24,7 +26,9 @@ pub const SMALL_STRICT: usize = SMALL_ARRAY + ROOM;
 
 pub const LARGE_STRICT: usize = LARGE_ARRAY + ROOM;
 
-pub const FEW_LOSSY: usize = WIDEST * FEW_BYTES + ROOM;
+pub const FEW_STRICT: usize = FEW_BYTES + STORED_AFTER;
+
+pub const FEW_LOSSY: usize = WIDEST * FEW_BYTES + STORED_AFTER;
 
 pub const SMALL_LOSSY: usize = WIDEST * SMALL_ARRAY + ROOM;
 
@@ -35,9 +39,6 @@ pub const LARGEST_LOSSY: usize = WIDEST * LARGEST_ARRAY + ROOM;
 /// How many bytes a window in place needs from its start on: its own, and as many that may be
 /// copied after them.
 const IN_PLACE: usize = 2 * LANES;
-
-/// The length of an array for a few bytes, and zeros that are read after them.
-const FEW_SOURCE: usize = FEW_BYTES + READ_AFTER + LANES;
 
 /// How many bytes before an offset tell whether a character crosses it.
 const BEFORE: usize = 5;
@@ -76,22 +77,14 @@ pub fn write_windows<F: Flavor, S: Reading>(bytes: &[u8], read: usize, out: &mut
 }
 
 /// Writes the text of all bytes to a buffer that has room for it, unless strict reading refuses one
-/// of them. A few bytes are one window, if the buffer is one for them.
+/// of them.
 #[inline(always)]
 pub fn write_all<F: Flavor, S: Reading>(bytes: &[u8], out: &mut [u8]) -> Result<usize, S::Refusal>
     requires { room_for S.which (length bytes.now) ≤ length out.old }
     ensures { WritesReading F.flavor S.which bytes.now result out.old out.new }
 {
-    let (end, is_refused) = if are_few(bytes) && out.len() <= FEW_LOSSY {
-        let mut source = [0; FEW_SOURCE];
-        load(bytes, &mut source);
-        let window = write_window::<F, S>(&source, 0, bytes.len(), out, 0);
-        (window.end, window.is_refused)
-    } else {
-        let pass = write_windows::<F, S>(bytes, 0, out);
-        (pass.end, pass.is_refused)
-    };
-    S::unless_refused(is_refused, end)
+    let pass = write_windows::<F, S>(bytes, 0, out);
+    S::unless_refused(pass.is_refused, pass.end)
 }
 
 /// Writes the surrogate pairs that come next, one after another. If most bytes are of pairs, that
@@ -142,6 +135,7 @@ fn write_in_place<F: Flavor, S: Reading>(
         → length bytes.now < result.read + IN_PLACE }
 {
     let mut pass = before;
+    let mut was_unchanged = false;
     while !pass.is_refused && pass.end <= limit && bytes.len() - pass.read >= IN_PLACE {
         let window = write_window::<F, S>(bytes, pass.read, STEP, out, pass.end);
         pass = Pass {
@@ -149,8 +143,42 @@ fn write_in_place<F: Flavor, S: Reading>(
             end: window.end,
             is_refused: window.is_refused,
         };
+        // After two windows in a row in which nothing changes, a test of more bytes takes less time.
+        if was_unchanged && window.is_unchanged && pass.end <= limit {
+            pass = copy_unchanged::<F, S>(bytes, pass, limit, out);
+        }
+        was_unchanged = window.is_unchanged;
     }
     pass
+}
+
+/// Copies the next characters that are the same in UTF-8, up to one that is not, or as many as have
+/// room.
+#[inline(always)]
+fn copy_unchanged<F: Flavor, S: Reading>(
+    bytes: &[u8],
+    before: Pass,
+    limit: usize,
+    out: &mut [u8],
+) -> Pass
+    requires pass { IsPass F.flavor bytes.now before.read }
+    requires fine { before.is_refused ≡ false }
+    requires end { before.end ≤ limit }
+    requires room { limit ≤ length out.old }
+    ensures more { GoesOn F.flavor S.which bytes.now before result out.old out.new }
+    ensures fine { result.is_refused ≡ false }
+{
+    let rest = &bytes[before.read..];
+    let part = &rest[..rest.len().min(limit - before.end)];
+    if are_few(part) {
+        return before;
+    }
+    let len = front_of_many::<F, Unchanged>(part);
+    Pass {
+        read: before.read + len,
+        end: put(&part[..len], out, before.end),
+        is_refused: false,
+    }
 }
 
 /// Writes the windows of the last bytes, as long as there is room. They are copied to an array, and

@@ -27,10 +27,10 @@ returns-then-are_few g c =
     let f = g.F.Flavor.flavor in
     let inv = c.loop-len.invariant in
     let step = c.in_ok-rest.ensures in
-    appended_behind f c.args.bytes.now c.in_ok-rest.rest.now c.args.before c.append_to_next.new.out c.append_few_strictly.result
+    appended_behind f c.args.bytes.now c.in_ok-rest.rest.now c.args.before c.append_to_next.new.out c.append_rest.result
     (more_read f Strict c.args.bytes.now _ _ _ _ _ inv.read step.read)
     (step.capacity ∙ inv.capacity)
-    c.append_few_strictly.ensures
+    c.append_rest.ensures
 
 pub returns-then-may_be_crossed : goal.returns-then-may_be_crossed
 returns-then-may_be_crossed g c =
@@ -59,7 +59,7 @@ loop-len-preserved g c =
     let step = c.in_ok-rest.ensures in
     record {
       read = more_read g.F.Flavor.flavor Strict c.args.bytes.now _ _ _ _ _ inv.read step.read;
-      front = c.front-len.ensures.len;
+      front = c.front_of_many-len.ensures;
       many = search rules;
       room = step.room;
       capacity = step.capacity ∙ inv.capacity;

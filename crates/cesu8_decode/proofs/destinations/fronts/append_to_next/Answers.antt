@@ -3,10 +3,9 @@ use Rattle.std.proofs.lemmas.Bool.{both_ways}
 use Rattle.std.proofs.lemmas.List.{take_rest}
 use Rattle.cesu8_bytes.specs.declared.strictness.Strictness.TheVariants.{Strict}
 use Rattle.cesu8_decode.specs.DecodedOffsets.{IsPrefixOf}
-use Rattle.cesu8_decode.proofs.chunks.Changed.{changed_null, changed_pair, seen_null_read, seen_pair_read}
+use Rattle.cesu8_decode.proofs.chunks.Changed.{begins_in_prefix, changed_null, changed_pair, seen_null_read, seen_pair_read}
 use Rattle.cesu8_decode.proofs.chunks.FrontReadings.{front_appended, unless_begun}
 use Rattle.cesu8_decode.proofs.chunks.ReadChunks.{nothing_read, more_read}
-use Rattle.cesu8_decode.proofs.chunks.Stops.{begins_in_prefix}
 use Rattle.cesu8_decode.proofs.destinations.fronts.append_to_next.Goals as goal
 
 pub returns-then-not-changes-clause-none : goal.returns-then-not-changes-clause-none

@@ -15,7 +15,7 @@ returns-then-not-begins_changed g c =
     let tells = rw take_rest at c.begins_changed.ensures in
     no_strict_text f Strict bytes c.args.buf.now (
       refl,
-      unless_begun f bytes c.args.front.len c.requires.found.len (λ begun. both_ways c.begins_changed.result c.if-not-begins_changed.true (tells.1 begun)) c.requires.more,
+      unless_begun f bytes c.args.front c.requires.front.0 (λ begun. both_ways c.begins_changed.result c.if-not-begins_changed.true (tells.1 begun)) c.requires.front.1,
     )
 
 -- Nothing stands behind what is written from an offset to the end.
@@ -31,9 +31,9 @@ pub copy_short-requires : goal.copy_short-requires
 copy_short-requires g c =
     let bytes = c.args.bytes.now in
     let buf = c.args.buf.now in
-    let n = c.args.front.len in
+    let n = c.args.front in
     let start = c.min-start.result in
-    let room = (written_length _ (drop n bytes) (drop start buf) _ _ (simp take_rest at c.in-Ok.ensures)).0 (omega (arith, length-drop n bytes, c.requires.more)) in
+    let room = (written_length _ (drop n bytes) (drop start buf) _ _ (simp take_rest at c.in-Ok.ensures)).0 (omega (arith, length-drop n bytes, c.requires.front.1)) in
     omega (
       arith,
       ap length (to_end start buf c.put_strictly_whole.new.buf),
@@ -41,7 +41,7 @@ copy_short-requires g c =
       room,
       length-drop start buf,
       c.min-start.ensures,
-      length-take-le n bytes c.requires.found.len.within,
+      length-take-le n bytes c.requires.front.0.within,
       length-take-le start buf (omega (arith, room, length-drop start buf)),
     )
 
@@ -50,25 +50,25 @@ returns-in-Ok g c =
     let f = g.F.Flavor.flavor in
     let bytes = c.args.bytes.now in
     let buf = c.args.buf.now in
-    let n = c.args.front.len in
+    let n = c.args.front in
     let start = c.min-start.result in
     let new = c.put_strictly_whole.new.buf in
     let puts = simp take_rest at c.in-Ok.ensures in
-    let room = (written_length f (drop n bytes) (drop start buf) _ _ puts).0 (omega (arith, length-drop n bytes, c.requires.more)) in
+    let room = (written_length f (drop n bytes) (drop start buf) _ _ puts).0 (omega (arith, length-drop n bytes, c.requires.front.1)) in
     let is : start ≡ n = omega (arith, room, length-drop start buf, c.min-start.ensures) in
     let long : length (take n bytes) ≡ length (take start buf) =
-    omega (arith, is, room, length-drop start buf, length-take-le n bytes c.requires.found.len.within, length-take-le start buf (omega (arith, room, length-drop start buf))) in
-    front_put f bytes buf n c.requires.found.len (omega arith) start c.in-Ok.len new c.copy_short.new.buf
+    omega (arith, is, room, length-drop start buf, length-take-le n bytes c.requires.front.0.within, length-take-le start buf (omega (arith, room, length-drop start buf))) in
+    front_put f bytes buf n c.requires.front.0 (omega arith) start c.in-Ok.len new c.copy_short.new.buf
     (omega (arith, is, room, length-drop start buf)) is puts
     (c.copy_short.ensures ∙ ap (λ bs. take n bytes ++ bs)
     (ap (drop (length (take n bytes))) (to_end start buf new) ∙ ap (λ m. drop m (take start buf ++ new)) long ∙ drop-append_seam (take start buf) new))
 
 pub overflow_add-result-in-Err-NoRoom : goal.overflow_add-result-in-Err-NoRoom
 overflow_add-result-in-Err-NoRoom g c =
-    let n = c.args.front.len in
+    let n = c.args.front in
     let puts = rw c.in-Err-NoRoom.field-0-is at (simp take_rest at c.in-Err-NoRoom.ensures) in
     let needed = needed_length g.F.Flavor.flavor (drop n c.args.bytes.now) (drop c.min-start.result c.args.buf.now) _ c.in-Err-NoRoom.no_room puts in
-    omega (arith, needed.0, length-drop n c.args.bytes.now, c.requires.more)
+    omega (arith, needed.0, length-drop n c.args.bytes.now, c.requires.front.1)
 
 pub returns-in-Err-NoRoom : goal.returns-in-Err-NoRoom
 returns-in-Err-NoRoom g c =
@@ -76,8 +76,8 @@ returns-in-Err-NoRoom g c =
     let buf = c.args.buf.now in
     let start = c.min-start.result in
     let puts = rw c.in-Err-NoRoom.field-0-is at (simp take_rest at c.in-Err-NoRoom.ensures) in
-    front_lacks_room f c.args.bytes.now buf c.args.front.len c.requires.found.len (omega arith) start c.put_strictly_whole.new.buf _ c.in-Err-NoRoom.no_room _
-    (λ (fits : c.args.front.len ≤ length buf). omega (arith, c.min-start.ensures)) c.requires.more puts refl (stays start buf c.put_strictly_whole.new.buf puts.unchanged)
+    front_lacks_room f c.args.bytes.now buf c.args.front c.requires.front.0 (omega arith) start c.put_strictly_whole.new.buf _ c.in-Err-NoRoom.no_room _
+    (λ (fits : c.args.front ≤ length buf). omega (arith, c.min-start.ensures)) c.requires.front.1 puts refl (stays start buf c.put_strictly_whole.new.buf puts.unchanged)
 
 pub returns-in-Err-NoText : goal.returns-in-Err-NoText
 returns-in-Err-NoText g c =
@@ -85,5 +85,5 @@ returns-in-Err-NoText g c =
     let buf = c.args.buf.now in
     let start = c.min-start.result in
     let puts = rw c.in-Err-NoText.field-0-is at (simp take_rest at c.in-Err-NoText.ensures) in
-    front_lacks_text f c.args.bytes.now buf c.args.front.len c.requires.found.len (omega arith) (drop start buf) c.put_strictly_whole.new.buf _ puts
+    front_lacks_text f c.args.bytes.now buf c.args.front c.requires.front.0 (omega arith) (drop start buf) c.put_strictly_whole.new.buf _ puts
     (stays start buf c.put_strictly_whole.new.buf puts.unchanged)

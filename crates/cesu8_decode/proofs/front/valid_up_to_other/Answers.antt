@@ -1,5 +1,0 @@
-use Rattle.cesu8_decode.proofs.chunks.Fronts.{valid_up_to_of}
-use Rattle.cesu8_decode.proofs.front.valid_up_to_other.Goals as goal
-
-pub returns : goal.returns
-returns g c = valid_up_to_of g.F.Flavor.flavor c.args.bytes.now c.front.result.len c.front.ensures.len

@@ -1,0 +1,71 @@
+//! Writes the reading of at most 64 bytes, which is that of one window.
+//!
+//! The test of the front has found which characters change, unless a byte is ill-formed. Then
+//! strict reading has no text, and lossy reading makes the window again.
+
+ghost use Rattle.std.specs.Prelude.{◌≡◌, ℕ, ◌≤◌, length, slice_index, take};
+ghost use Rattle.cesu8_decode.specs.Decoding.{WritesReading, room_for_few};
+ghost use Rattle.cesu8_decode.specs.Front.{AreChanges, IsPartialFront};
+ghost use Rattle.cesu8_decode.specs.Masks.{IsWindow};
+
+use crate::front::FoundFront;
+use crate::lanes::padded::load;
+use crate::lanes::windows::{Window, window_of_few};
+use crate::pass::events::{STORED_AFTER, write_events};
+use crate::way::FEW_BYTES;
+use cesu8_bytes::flavor::Flavor;
+use cesu8_bytes::lanes::class::{Equal, LANES, bits};
+use cesu8_bytes::strictness::{Reading, Strictness};
+use std::simd::prelude::*;
+
+/// The length of an array for the bytes, and zeros that are read after them.
+const SOURCE: usize = FEW_BYTES + LANES;
+
+/// Writes the reading of at most 64 bytes, unless strict reading refuses one of them. `front` is
+/// their front.
+#[inline(always)]
+pub fn write_few<F: Flavor, S: Reading>(
+    bytes: &[u8],
+    front: FoundFront,
+    out: &mut [u8],
+) -> Result<usize, S::Refusal>
+    requires few { length bytes.now ≤ FEW_BYTES }
+    requires front { IsPartialFront F.flavor bytes.now front }
+    requires room { room_for_few S.which ≤ length out.old }
+    ensures { WritesReading F.flavor S.which bytes.now result out.old out.new }
+{
+    let mut source = [0; SOURCE];
+    load(bytes, &mut source);
+    let window = match S::strictness() {
+        _ if front.changed != 0 => changed_window::<F>(&source, front.changed, bytes.len()),
+        Strictness::Strict => return S::unless_refused(true, 0),
+        Strictness::Lossy => window_of_few::<F>(bytes),
+    };
+    let end = write_events::<F, S>(&source, 0, window, out, 0);
+    S::unless_refused(false, end)
+}
+
+/// Returns the window of the first `len` bytes of the source, by the mask of the characters that
+/// change. None of these bytes is ill-formed, and the characters that C0 begins are C0 80.
+#[inline(always)]
+fn changed_window<F: Flavor>(source: &[u8], changed: u64, len: usize) -> Window
+    requires source { length source.now ≡ SOURCE }
+    requires len { len ≤ FEW_BYTES }
+    requires zeros { (i : ℕ) → len ≤ i → slice_index source.now i ≡ 0 }
+    requires changed { AreChanges F.flavor (take len source.now) changed }
+    ensures window { IsWindow F.flavor source.now 0 result }
+    ensures whole { result.ill_formed ≡ 0 }
+    ensures len { result.len ≡ len }
+{
+    let nulls = if F::has_long_null() {
+        changed & bits::<Equal<0xC0>, LANES>(u8x64::from_slice(source))
+    } else {
+        0
+    };
+    Window {
+        ill_formed: 0,
+        pairs: changed & !nulls,
+        nulls,
+        len,
+    }
+}

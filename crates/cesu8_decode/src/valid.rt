@@ -1,0 +1,59 @@
+//! How many bytes at the front are whole encoded characters: the valid prefix.
+//!
+//! One window tells which of at most 64 bytes no character covers. Of more, the test of the front
+//! finds the first byte that may not follow those before it.
+
+ghost use Rattle.std.specs.Prelude.{◌≡◌, ◌≤◌, IsTrue, false, length};
+ghost use Rattle.cesu8_text.specs.Fronts.{IsValidUpTo};
+ghost use Rattle.cesu8_text.specs.Reading.{IsStrictReading, HasNoStrictReading, reading};
+
+use crate::front::front_of_many;
+use crate::lanes::character_set::Encoded;
+use crate::lanes::windows::window_of_few;
+use crate::way::are_few;
+use cesu8_bytes::flavor::Flavor;
+use cesu8_bytes::lanes::class::LANES;
+use cesu8_bytes::looks::is_short_unchanged_ascii;
+
+/// Returns how many bytes at the front are whole encoded characters.
+#[inline(always)]
+pub fn valid_up_to<F: Flavor>(bytes: &[u8]) -> usize
+    ensures { IsValidUpTo F.flavor bytes.now result }
+{
+    if is_short_unchanged_ascii::<F>(bytes) {
+        return bytes.len();
+    }
+    valid_up_to_other::<F>(bytes)
+}
+
+/// Like `valid_up_to`, without the fast path for short ASCII. It is not inlined, so that
+/// `valid_up_to` stays small.
+#[inline(never)]
+pub fn valid_up_to_other<F: Flavor>(bytes: &[u8]) -> usize
+    ensures { IsValidUpTo F.flavor bytes.now result }
+{
+    if are_few(bytes) {
+        return valid_up_to_few::<F>(bytes);
+    }
+    front_of_many::<F, Encoded>(bytes)
+}
+
+/// Returns whether some byte is in no encoded character. It stops soon after the first such byte.
+#[inline(always)]
+pub fn is_ill_formed<F: Flavor>(bytes: &[u8]) -> bool
+    ensures ill_formed { IsTrue result → HasNoStrictReading F.flavor bytes.now }
+    ensures whole { result ≡ false → IsStrictReading F.flavor bytes.now
+        (reading F.flavor bytes.now) }
+{
+    valid_up_to_other::<F>(bytes) < bytes.len()
+}
+
+/// Returns how many of at most 64 bytes at the front are whole encoded characters.
+#[inline(always)]
+fn valid_up_to_few<F: Flavor>(bytes: &[u8]) -> usize
+    requires { length bytes.now ≤ LANES }
+    ensures { IsValidUpTo F.flavor bytes.now result }
+{
+    let window = window_of_few::<F>(bytes);
+    (window.ill_formed.trailing_zeros() as usize).min(bytes.len())
+}
