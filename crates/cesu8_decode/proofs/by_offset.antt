@@ -1,4 +1,5 @@
--- Reading by offsets: what begins where, what becomes of each byte, lengths and ill-formed bytes as sums.
+-- Decoding offset by offset: which character begins where, what is written for each byte, and
+-- lengths and ill-formed bytes as sums.
 pub mod FirstWidths
 pub mod WidthTests
 pub mod WindowOffsets

@@ -1,4 +1,4 @@
--- Text that is read or written a chunk at a time.
+-- Text that is decoded or written chunk by chunk.
 pub mod ReadChunks
 pub mod DecodedChunks
 pub mod WrittenChunks

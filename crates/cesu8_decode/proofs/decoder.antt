@@ -1,4 +1,4 @@
--- The decoder by vectors.
+-- The vector code of the decoder.
 pub mod MaskBits
 pub mod MaskTests
 pub mod ThreeMasks

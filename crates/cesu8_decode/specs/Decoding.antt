@@ -1,4 +1,5 @@
--- What decoding promises: a chunk of text at the front of bytes, all of it, and what is written for a window.
+-- What the functions that decode promise: what is written for a window, for all bytes, and by a
+-- pass that stops and continues.
 use Rattle.std.specs.Prelude.{◌≡◌, ℕ, ◌+◌, ◌*◌, ◌<◌, ◌≤◌, Bool, true, false, List, [], ◌++◌, Vec, length, take, vec_capacity, Result, IfOk, OnErr}
 use Rattle.cesu8_text.specs.Reading.{HasNoStrictReading, lossy_length}
 use Rattle.cesu8_text.specs.Encoding.{Flavor}
@@ -13,7 +14,8 @@ use Rattle.cesu8_decode.specs.declared.pass.windows.Pass.{Pass}
 use Rattle.cesu8_decode.specs.DecodedOffsets.{window_of, decoded, is_ill_formed_at, is_boundary_at}
 use Rattle.cesu8_bytes.specs.TextChunks.{IsReadSoFar}
 
--- Bytes are no more than the way takes that they go, and by chunks more than all others take.
+-- The strategy fits the bytes: they are at most as many as its limit, and for chunks more than
+-- every other limit.
 abbrev pub Takes : Way → List ℕ → Type 0
 Takes Few bytes = length bytes ≤ FEW_BYTES
 Takes SmallArray bytes = length bytes ≤ SMALL_ARRAY
@@ -21,66 +23,70 @@ Takes LargeArray bytes = length bytes ≤ LARGE_ARRAY
 Takes LargestArray bytes = length bytes ≤ LARGEST_ARRAY
 Takes Chunks bytes = LARGEST_ARRAY < length bytes
 
--- Strict reading writes no more bytes than it reads, and lossy reading U+FFFD for a byte at most.
+-- The most bytes that are written for n bytes: n in strict decoding, and a U+FFFD for each in lossy
+-- decoding.
 abbrev pub most_written : Strictness → ℕ → ℕ
 most_written Strict n = n
 most_written Lossy n = WIDEST * n
 
--- A buffer has room for the text of n bytes, and after it for that of a window.
+-- The space that n bytes need in a buffer: for their text, and after it for the text of one more
+-- window.
 abbrev pub room_for : Strictness → ℕ → ℕ
 room_for which n = most_written which n + ROOM
 
--- A buffer has room for the text of at most 64 bytes, and for what is stored after it.
+-- The space that at most 64 bytes need: for their text, and for what is stored after it.
 abbrev pub room_for_few : Strictness → ℕ
 room_for_few which = most_written which FEW_BYTES + STORED_AFTER
 
--- No text of the bytes is longer.
+-- The greatest length of the text of the bytes.
 abbrev pub most_of_text : Flavor → Strictness → List ℕ → ℕ
 most_of_text f Strict bytes = length bytes
 most_of_text f Lossy bytes = lossy_length f bytes
 
--- The text of the bytes is written to the front of a slice, unless strict reading refuses one of them.
+-- The text of the bytes is written at the start of a slice, or strict decoding rejects a byte.
 pub record WritesReading {E : Type 0} (f : Flavor) (which : Strictness) (bytes : List ℕ) (result : Result ℕ E) (old new : List ℕ) : Type 0 where
   pub text : IfOk result (λ end. IsReadSoFar f which bytes [] [] (take end new))
   pub end : IfOk result (λ end. end ≤ most_written which (length bytes))
   pub none : OnErr result ((which ≡ Strict) × HasNoStrictReading f bytes)
   pub len : length new ≡ length old
 
--- The text of the bytes is appended to a vector, unless strict reading refuses one of them.
+-- The text of the bytes is appended to a vector, or strict decoding rejects a byte.
 pub record AppendsReading {Z E : Type 0} (f : Flavor) (which : Strictness) (bytes : List ℕ) (before : Vec ℕ Z) (result : Result (Vec ℕ Z) E) : Type 0 where
   pub text : IfOk result (λ text. IsReadSoFar f which bytes [] before.items text.items)
   pub capacity : IfOk result (λ text. vec_capacity text ≡ vec_capacity before)
   pub none : OnErr result ((which ≡ Strict) × HasNoStrictReading f bytes)
 
--- The lossy reading is all that a vector has, and fills what was requested.
+-- The vector holds exactly the lossily decoded text, and its capacity is the length of the text.
 pub record BuildsReading {Z E : Type 0} (f : Flavor) (bytes : List ℕ) (result : Result (Vec ℕ Z) E) : Type 0 where
   pub text : IfOk result (λ text. IsReadSoFar f Lossy bytes [] [] text.items)
   pub capacity : IfOk result (λ text. vec_capacity text ≡ length text.items)
 
--- A text ends with what n bytes of a window become, from an offset on, or strict reading refuses one of
--- them.
+-- A text ends with what is written for n bytes of a window from an offset on, or strict decoding
+-- rejects one of these bytes.
 pub record IsDecoded (f : Flavor) (which : Strictness) (window : List ℕ) (at n : ℕ) (before text : List ℕ) (is_refused : Bool) : Type 0 where
   pub bytes : is_refused ≡ false → text ≡ before ++ decoded f window at n
   pub refused : is_refused ≡ true → (i : ℕ) × (at ≤ i) × (i < at + n) × (is_ill_formed_at f window i ≡ true)
   pub lossy : which ≡ Lossy → is_refused ≡ false
   pub strict : which ≡ Strict → is_refused ≡ false → (i : ℕ) → at ≤ i → i < at + n → is_ill_formed_at f window i ≡ false
 
--- It is written behind what stands before an offset.
+-- What is written for n bytes of a window (`IsDecoded`) is written after the first `start` bytes of
+-- a slice.
 pub record WritesDecoded (f : Flavor) (which : Strictness) (window : List ℕ) (at n start : ℕ) (old new : List ℕ) (new_end : ℕ) (is_refused : Bool) : Type 0 where
   pub text : IsDecoded f which window at n (take start old) (take new_end new) is_refused
   pub end : new_end ≤ start + most_written which n
   pub len : length new ≡ length old
 
--- The pass goes on after some bytes, at a boundary that no character crosses,
+-- The pass has read some bytes and is at a character boundary.
 pub record IsPass (f : Flavor) (bytes : List ℕ) (read : ℕ) : Type 0 where
   pub within : read ≤ length bytes
   pub boundary : is_boundary_at f (window_of bytes) read ≡ true
 
--- and nothing is in the buffer.
+-- The state of a pass that has read some bytes, and whose buffer is empty.
 abbrev pub pass_from : ℕ → Pass
 pass_from read = record { read = read; end = 0; is_refused = false }
 
--- It came further, and the text of what was read meanwhile is written behind that of what was read before.
+-- The pass has read more bytes, and their text is written after the text of the bytes that were
+-- read before.
 pub record GoesOn (f : Flavor) (which : Strictness) (bytes : List ℕ) (before after : Pass) (old new : List ℕ) : Type 0 where
   pub pass : after.is_refused ≡ false → IsPass f bytes after.read
   pub within : (before.read ≤ after.read) × (after.read ≤ length bytes)
@@ -90,7 +96,7 @@ pub record GoesOn (f : Flavor) (which : Strictness) (bytes : List ℕ) (before a
   pub inside : after.end ≤ length new
   pub len : length new ≡ length old
 
--- A vector gets what the pass writes next to some buffer.
+-- What the pass writes to some buffer next is appended to a vector.
 pub record AppendsNext {Z : Type 0} (f : Flavor) (which : Strictness) (bytes : List ℕ) (read : ℕ) (after : Pass) (before out : Vec ℕ Z) : Type 0 where
   pub old : List ℕ
   pub new : List ℕ

@@ -1,4 +1,4 @@
--- Which bytes may follow which in whole encoded characters.
+-- Which bytes can follow which in whole encoded characters, as tests of five adjacent bytes.
 use Rattle.std.specs.Prelude.{◌≡◌, ℕ, ◌+◌, ◌/◌, ◌%◌, ◌<◌, ◌≤◌, ◌&&◌, ◌||◌, ◌==◌, nat_le, nat_lt, if◌then◌else◌, not, Bool, true, false, List, ◌∷◌, length, slice_index, bit_and}
 use Rattle.std.specs.Simd.Lanes.{chunk}
 use Rattle.cesu8_text.specs.Class.{is_null}
@@ -9,12 +9,12 @@ use Rattle.cesu8_decode.specs.declared.lanes.character_set.Block.{Block}
 use Rattle.cesu8_decode.specs.declared.lanes.character_set.Rule.{Rule}
 use Rattle.cesu8_decode.specs.declared.lanes.character_set.TheConstants.{ENCODED, UNCHANGED}
 
--- The characters that are meant: all that are encoded, or those of them that are the same in UTF-8.
+-- The set of characters: all encoded characters, or those of them that are unchanged in UTF-8.
 pub data CharacterSet : Type 0 where
   Encoded : CharacterSet
   Unchanged : CharacterSet
 
--- What tells them: whether surrogate pairs and C0 80 are meant, and tables.
+-- The rule of a set: whether it has surrogate pairs and C0 80, and its tables.
 abbrev pub rule : CharacterSet → Rule
 rule Encoded = ENCODED
 rule Unchanged = UNCHANGED
@@ -22,21 +22,21 @@ rule Unchanged = UNCHANGED
 abbrev pub has_changed : CharacterSet → Bool
 has_changed s = (rule s).has_changed
 
--- From this second byte on a surrogate is none that begins a character.
+-- ED and a byte from this one on begin no character of the set.
 abbrev pub first_low : CharacterSet → ℕ
 first_low Encoded = 0xB0
 first_low Unchanged = 0xA0
 
--- What three tables tell of two bytes: the common bits of their entries, by the upper half of the
--- first byte, by its lower half, and by the upper half of the second.
+-- What three tables have for two bytes: the bits that their entries have in common, by the upper
+-- half of the first byte, by its lower half, and by the upper half of the second.
 abbrev pub told : (by_high by_low by_next : List ℕ) → ℕ → ℕ → ℕ
 told by_high by_low by_next a b =
     bit_and (bit_and (slice_index by_high (a / 0x10 % 0x10)) (slice_index by_low (a % 0x10))) (slice_index by_next (b / 0x10 % 0x10))
 
--- What byte b shows behind byte a: 80 (hexadecimal) behind a continuation byte, as the third byte of
--- a character has it, 20 as the second byte of a low surrogate, or of any where none is meant, and 0
--- where it begins a character or is the second byte of another. All else is in no character that is
--- meant, by a bit of its own.
+-- The class of byte b after byte a (numbers are hexadecimal): 80 after a continuation byte, so b is
+-- a third byte; 20 if b is the second byte of a low surrogate, or of any surrogate if the set has
+-- no pairs; 0 if b begins a character or is the second byte of another character. In every other
+-- case no character of the set has the two bytes, and the class has an error bit.
 unfoldable pub shown : CharacterSet → Flavor → ℕ → ℕ → ℕ
 shown s f a b =
     if is_null f b then 0xFF
@@ -50,29 +50,32 @@ shown s f a b =
     else if a == 0xED && nat_le (first_low s) b then 0x20
     else 0
 
--- Two bytes begin a high surrogate, and pairs are meant.
+-- Two bytes begin a high surrogate, and the set has surrogate pairs.
 abbrev pub is_high_surrogate : CharacterSet → ℕ → ℕ → Bool
 is_high_surrogate s a b = has_changed s && (a == 0xED && (nat_le 0xA0 b && nat_lt b 0xB0))
 
--- What a byte has to show by the one two before it: the third byte of a character that this leads.
+-- The class that a byte is required to have by the byte two places earlier: a third byte, if that
+-- leads a character of three bytes.
 abbrev pub later : ℕ → ℕ
 later d = if nat_le 0xE0 d then 0x80 else 0
 
--- The same by the two before that too: the second byte of a low surrogate behind a high one.
+-- The class that a byte is required to have by the bytes four, three and two places earlier: also
+-- the second byte of a low surrogate, if a high surrogate precedes it.
 abbrev pub wanted : CharacterSet → (a b d : ℕ) → ℕ
 wanted s a b d = later d + (if is_high_surrogate s a b then 0x20 else 0)
 
--- Byte g may follow four others.
+-- Byte g can follow the bytes a, b, d and e: its class is the required one.
 abbrev pub follows : CharacterSet → Flavor → (a b d e g : ℕ) → Bool
 follows s f a b d e g = shown s f e g == wanted s a b d
 
--- Byte i + 4 of a window may follow the four before it.
+-- Byte i + 4 of a window can follow the four bytes before it.
 abbrev pub follows_at : CharacterSet → Flavor → List ℕ → ℕ → Bool
 follows_at s f window i =
     let w = slice_index window in
     follows s f (w i) (w (i + 1)) (w (i + 2)) (w (i + 3)) (w (i + 4))
 
--- A block has the 32 bytes of a window from byte i + 4 on, and those before each of them that a set needs.
+-- A block holds 32 bytes of a window, from byte i + 4 on, and the bytes before each of them that
+-- the set needs.
 pub record IsBlockAt (s : CharacterSet) (window : List ℕ) (i : ℕ) (block : Block) : Type 0 where
   pub room : i + 36 ≤ length window
   pub bytes : block.bytes ≡ chunk (i + 4) 32 window
@@ -81,30 +84,30 @@ pub record IsBlockAt (s : CharacterSet) (window : List ℕ) (i : ℕ) (block : B
   pub three_before : has_changed s ≡ true → block.three_before ≡ chunk (i + 1) 32 window
   pub four_before : has_changed s ≡ true → block.four_before ≡ chunk i 32 window
 
--- The window on some bytes: four characters of one byte go before them.
+-- The window of some bytes: four zeros precede them, each a character of one byte.
 abbrev pub after_fillers : List ℕ → List ℕ
 after_fillers bytes = 0 ∷ 0 ∷ 0 ∷ 0 ∷ bytes
 
--- Each of n bytes of a window, from byte i + 4 on, may follow the four before it.
+-- Each of n bytes of a window, from byte i + 4 on, can follow the four bytes before it.
 abbrev pub AllFollow : CharacterSet → Flavor → List ℕ → ℕ → ℕ → Type 0
 AllFollow s f window i n = (k : ℕ) → i ≤ k → k < i + n → follows_at s f window k ≡ true
 
--- So do the first n bytes, behind fillers.
+-- Each of the first n bytes can follow the bytes before it.
 pub record FirstFollow (s : CharacterSet) (f : Flavor) (bytes : List ℕ) (n : ℕ) : Type 0 where
   pub within : n ≤ length bytes
   pub follow : (k : ℕ) → k < n → follows_at s f (after_fillers bytes) k ≡ true
 
--- They do, and the next byte may not.
+-- Each of the first n bytes can follow the bytes before it, and the next byte cannot.
 pub record FollowUpTo (s : CharacterSet) (f : Flavor) (bytes : List ℕ) (n : ℕ) : Type 0 where
   pub first : FirstFollow s f bytes n
   pub stops : n < length bytes → follows_at s f (after_fillers bytes) n ≡ false
 
--- By the four bytes before a boundary, a character may cross it, or a surrogate pair.
+-- A character or a surrogate pair can cross an offset, by the four bytes before it.
 abbrev pub crosses : CharacterSet → (a b d e : ℕ) → Bool
 crosses s a b d e =
     nat_le 0xC0 e || (nat_le 0xE0 d || (is_high_surrogate s b d || is_high_surrogate s a b))
 
--- The boundary behind so many bytes of the window's.
+-- A character or a surrogate pair can cross the offset after byte i + 3 of a window.
 abbrev pub crosses_at : CharacterSet → List ℕ → ℕ → Bool
 crosses_at s window i =
     let w = slice_index window in

@@ -1,4 +1,4 @@
--- Bytes at the front that are whole characters of a set.
+-- The longest prefix of whole characters of a set.
 use Rattle.std.specs.Prelude.{◌≡◌, ◌↔◌, ℕ, ◌<◌, ◌≤◌, ◌||◌, Bool, false, List, length, take, Any}
 use Rattle.cesu8_text.specs.Encoding.{Flavor, encoding, IsEncodedOtherwise}
 use Rattle.cesu8_text.specs.Text.{IsText}
@@ -9,45 +9,46 @@ use Rattle.cesu8_decode.specs.Masks.{Marks, is_pair_at, is_null_at}
 use Rattle.cesu8_decode.specs.declared.front.few.FoundFront.{FoundFront}
 use Rattle.cesu8_decode.specs.declared.way.TheConstants.{FEW_BYTES}
 
--- A scalar value is none of the set.
+-- The scalar values whose encoding is not in the set.
 abbrev pub IsOutside : CharacterSet → Flavor → ℕ → Type 0
 IsOutside Encoded f = λ c. ⊥
 IsOutside Unchanged f = IsEncodedOtherwise f
 
--- The bytes are those of a text in the set.
+-- The bytes are whole characters of the set: the encoding of a text in it.
 pub record AreWhole (s : CharacterSet) (f : Flavor) (bytes : List ℕ) : Type 0 where
   pub text : List ℕ
   pub reads : IsText text × (encoding f text ≡ bytes)
   pub inside : ¬ (Any (IsOutside s f) text)
 
--- The first n bytes are, and no longer prefix is.
+-- The first n bytes are whole characters of the set, and no longer prefix is.
 pub record IsFront (s : CharacterSet) (f : Flavor) (bytes : List ℕ) (n : ℕ) : Type 0 where
   pub within : n ≤ length bytes
   pub whole : AreWhole s f (take n bytes)
   pub greatest : (m : ℕ) → n < m → m ≤ length bytes → ¬ (AreWhole s f (take m bytes))
 
--- A surrogate pair begins at an offset, or C0 80 in MUTF-8.
+-- A character that needs conversion begins at the offset: a surrogate pair, or C0 80 in MUTF-8.
 abbrev pub is_changed_at : Flavor → List ℕ → ℕ → Bool
 is_changed_at f bytes i = is_pair_at f bytes i || is_null_at f bytes i
 
--- A mask that is not zero marks the characters that change, and then no byte is ill-formed.
+-- The mask marks the characters that need conversion, and no byte is ill-formed.
 pub record AreChanges (f : Flavor) (bytes : List ℕ) (mask : ℕ) : Type 0 where
   pub marks : Marks mask (is_changed_at f bytes) 0 (length bytes)
   pub whole : (i : ℕ) → i < length bytes → is_ill_formed_at f (window_of bytes) i ≡ false
 
--- A front has their length. Of at most 64 bytes the characters that change are known too, if no byte
--- is ill-formed.
+-- The front has the length of the unchanged prefix. For at most 64 bytes its mask is the mask of
+-- the characters that need conversion, or it is 0 if there are none or a byte is ill-formed.
 pub record IsFrontOf (f : Flavor) (bytes : List ℕ) (front : FoundFront) : Type 0 where
   pub len : IsFront Unchanged f bytes front.len
   pub changes : length bytes ≤ FEW_BYTES → ¬ (front.changed ≡ 0) → AreChanges f bytes front.changed
   pub none : length bytes ≤ FEW_BYTES → front.changed ≡ 0 → front.len < length bytes → HasNoStrictReading f bytes
 
--- Not all bytes are such characters.
+-- The front is the unchanged prefix, and it is not all of the bytes.
 pub record IsPartialFront (f : Flavor) (bytes : List ℕ) (front : FoundFront) : Type 0 where
   pub found : IsFrontOf f bytes front
   pub more : front.len < length bytes
 
--- The front is all bytes exactly if a call keeps them, and otherwise it is that of such characters.
+-- The front is all of the bytes exactly if a call returns its input unchanged, and otherwise it is
+-- the unchanged prefix.
 pub record IsFrontUnlessKept (f : Flavor) (are_kept : Type 0) (bytes : List ℕ) (found : FoundFront) : Type 0 where
   pub kept : (found.len ≡ length bytes) ↔ are_kept
   pub front : ¬ (found.len ≡ length bytes) → IsPartialFront f bytes found

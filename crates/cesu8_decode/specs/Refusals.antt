@@ -1,13 +1,13 @@
--- Why no text is built.
+-- Conditions on the errors of the decoder.
 use Rattle.std.specs.Prelude.{⊤, Result, IfErr}
 use Rattle.cesu8_decode.specs.declared.refusal.Refusal.{Refusal}
 use Rattle.cesu8_decode.specs.declared.refusal.Refusal.TheVariants.{NoText, Memory}
 
--- If the refusal is that the bytes have no text, the fact holds.
+-- If the error is that the bytes have no text, the fact holds.
 abbrev pub IfNoText : Refusal → Type 0 → Type 0
 IfNoText NoText P = P
 IfNoText (Memory error) P = ⊤
 
--- If the function returns that refusal, the fact holds.
+-- If the function returns the error that the bytes have no text, the fact holds.
 abbrev pub OnNoText : {T : Type 0} → Result T Refusal → Type 0 → Type 0
 OnNoText result P = IfErr result (λ refusal. IfNoText refusal P)

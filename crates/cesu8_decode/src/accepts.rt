@@ -1,4 +1,8 @@
-//! What a call that decodes takes, as types.
+//! The modes of decoding as types: `Lenient` returns input unchanged if it is UTF-8, and
+//! `EncodingAlone` only if it is UTF-8 in which nothing needs conversion.
+//!
+//! `front_unless_kept` decides whether a call returns its input unchanged. If not, it returns the
+//! unchanged prefix, with which decoding begins.
 
 ghost use Rattle.std.specs.Prelude.{◌≡◌, ◌↔◌, ◌⊎◌, ℕ, ◌≤◌, List, IfNone, IfSome, IsTrue, IsUtf8, length, take};
 ghost use Rattle.cesu8_text.specs.Class.{IsUnchangedUtf8};
@@ -14,22 +18,22 @@ use crate::way::are_few;
 use cesu8_bytes::flavor::{Cesu8Flavor, Flavor};
 use cesu8_bytes::looks::{is_short_ascii, is_short_unchanged_ascii};
 
-/// What a call takes: `EncodingAlone` where its name has `strict`, else `Lenient`.
+/// A mode: `EncodingAlone` for calls with `strict` in their names, and `Lenient` for the others.
 pub trait Accepts {
-    /// The bytes that it returns as they are.
+    /// The input that is returned unchanged.
     ghost keeps: { AnyFlavor → List ℕ → Type 0 };
 
-    /// What is a text of bytes to it, and to a call that replaces what is ill-formed.
+    /// Which text an input has: if ill-formed bytes are rejected, and if they are replaced.
     ghost reads: { AnyFlavor → List ℕ → List ℕ → Type 0 };
 
     ghost reads_lossily: { AnyFlavor → List ℕ → List ℕ → Type 0 };
 
-    /// Inlined fast path: returns whether the bytes are short ASCII that is kept. `looks` says what
-    /// is short.
+    /// Inlined fast path: returns whether the input is short ASCII that is returned unchanged. The
+    /// module `looks` defines "short".
     fn is_short_kept<F: Flavor>(bytes: &[u8]) -> bool
         ensures { IsTrue result → keeps F.flavor bytes.now };
 
-    /// Returns the front of what stays in UTF-8, or all bytes if they are kept.
+    /// Returns the unchanged prefix, or the whole input if it is returned unchanged.
     fn front_of_other<F: Flavor>(bytes: &[u8]) -> FoundFront
         ensures { IsFrontUnlessKept F.flavor (keeps F.flavor bytes.now) bytes.now result };
 
@@ -37,8 +41,9 @@ pub trait Accepts {
         → KnowsTexts f bytes (keeps f bytes) (reads f bytes) (reads_lossily f bytes) };
 }
 
-/// Returns `None` where `A` keeps all bytes, or a part at the front: `len` bytes, not all, that
-/// are the same in UTF-8, and which characters of at most 64 bytes change.
+/// Returns `None` if mode `A` returns the input unchanged. Otherwise returns the unchanged prefix,
+/// which is not the whole input. For at most 64 bytes it also says which characters need
+/// conversion.
 #[inline(always)]
 pub fn front_unless_kept<F: Flavor, A: Accepts>(bytes: &[u8]) -> Option<FoundFront>
     ensures kept { IfNone result (A.keeps F.flavor bytes.now) }
@@ -55,8 +60,9 @@ pub fn front_unless_kept<F: Flavor, A: Accepts>(bytes: &[u8]) -> Option<FoundFro
     Some(front)
 }
 
-/// Returns the front that `A` tells. It is not inlined, so that the look before stays small, and
-/// returns two words, which stay in registers. To a slice the look is followed by a call anyway.
+/// Calls `front_of_other`. It is not inlined, so that the fast path of its caller stays small, and
+/// returns two words, which fit in registers. Decoding to a slice does not need it, since a call
+/// follows its fast path anyway.
 #[inline(never)]
 fn front_by_call<F: Flavor, A: Accepts>(bytes: &[u8]) -> FoundFront
     ensures { IsFrontUnlessKept F.flavor (A.keeps F.flavor bytes.now) bytes.now result }
@@ -64,7 +70,7 @@ fn front_by_call<F: Flavor, A: Accepts>(bytes: &[u8]) -> FoundFront
     A::front_of_other::<F>(bytes)
 }
 
-/// UTF-8 as a whole, or else the encoding.
+/// Input is UTF-8 as a whole, or else the encoding.
 pub struct Lenient;
 
 impl Accepts for Lenient {
@@ -82,7 +88,8 @@ impl Accepts for Lenient {
     #[inline(always)]
     fn front_of_other<F: Flavor>(bytes: &[u8]) -> FoundFront {
         let front = front::<F>(bytes);
-        // Where all is UTF-8, a character that changes begins there: of four bytes, or 00.
+        // If the input is UTF-8, the byte after the unchanged prefix begins a character of four
+        // bytes or is 00.
         if front.len == bytes.len() || !matches!(bytes[front.len], 0 | 0xF0..=0xF7) {
             return front;
         }
@@ -92,8 +99,8 @@ impl Accepts for Lenient {
     ghost known = { lenient_texts };
 }
 
-/// Returns all bytes if they are UTF-8, as they are up to the end of the front, or else the front.
-/// It is not inlined, so that text that stays has few registers to save.
+/// Returns the whole input if it is UTF-8, and otherwise `front`, whose bytes are known to be
+/// UTF-8. It is not inlined, so that unchanged input has few registers to save.
 #[inline(never)]
 fn all_if_utf8(bytes: &[u8], front: FoundFront) -> FoundFront
     requires { (front.len ≤ length bytes.now) × IsUtf8 (take front.len bytes.now) }
@@ -109,8 +116,9 @@ fn all_if_utf8(bytes: &[u8], front: FoundFront) -> FoundFront
     }
 }
 
-/// Returns where the test for UTF-8 begins: after the front, which is UTF-8. At most 64 bytes are
-/// tested from the start, since that takes no longer, and no branch depends on the front.
+/// Returns the offset at which the test for UTF-8 begins: the end of the unchanged prefix, which is
+/// UTF-8. At most 64 bytes are tested from the start, since that takes no longer and no branch
+/// depends on the prefix.
 #[inline(always)]
 fn first_tested(bytes: &[u8], front: usize) -> usize
     ensures { (result ≡ 0) ⊎ (result ≡ front) }
@@ -118,17 +126,17 @@ fn first_tested(bytes: &[u8], front: usize) -> usize
     if are_few(bytes) { 0 } else { front }
 }
 
-/// Returns whether the bytes are UTF-8, as lenient calls test them. It is not inlined, so that its
-/// callers stay short.
+/// Returns whether the bytes are UTF-8, by the test of lenient calls. It is not inlined, so that
+/// its callers are small.
 #[inline(never)]
 pub fn is_utf8(bytes: &[u8]) -> bool
     ensures { IsTrue result ↔ IsUtf8 bytes.now }
 {
-    // In CESU-8 no ASCII changes.
+    // In CESU-8 all ASCII is unchanged, so no byte 00 ends the prefix.
     Lenient::front_of_other::<Cesu8Flavor>(bytes).len == bytes.len()
 }
 
-/// The encoding alone. UTF-8 is one if no byte of it changes.
+/// Input is the encoding. It is also UTF-8 if nothing in it needs conversion.
 pub struct EncodingAlone;
 
 impl Accepts for EncodingAlone {

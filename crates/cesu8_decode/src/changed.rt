@@ -1,5 +1,5 @@
-//! Characters that have other bytes in UTF-8, at the front of bytes: surrogate pairs, and C0 80 in
-//! MUTF-8.
+//! Tests whether bytes begin with a character that needs conversion to UTF-8: a surrogate pair, or
+//! C0 80 in MUTF-8.
 
 ghost use Rattle.std.specs.Prelude.{◌≡◌, ◌↔◌, ◌≤◌, ℕ, List, length, replicate, slice_index, IsTrue};
 ghost use Rattle.cesu8_text.specs.Encoding.{Flavor as AnyFlavor};
@@ -9,7 +9,8 @@ use cesu8_bytes::flavor::Flavor;
 use cesu8_bytes::lanes::short::copy_short;
 use cesu8_bytes::pairs::{PAIR_READ, is_pair};
 
-/// Returns whether a byte may begin one, in either flavor: `strings` tests this first.
+/// Returns whether a byte can be the first one of a character that needs conversion, in either
+/// encoding: ED or C0. `strings` rejects other bytes by this test alone.
 #[inline(always)]
 pub fn may_lead_changed(byte: u8) -> bool
     ensures { (f : AnyFlavor) (bytes : List ℕ) → BeginsChanged f bytes
@@ -18,7 +19,7 @@ pub fn may_lead_changed(byte: u8) -> bool
     (byte == 0xED) | (byte == 0xC0)
 }
 
-/// Returns whether the bytes begin with a character that has other bytes in UTF-8.
+/// Returns whether the bytes begin with a character that needs conversion.
 #[inline(always)]
 pub fn begins_changed<F: Flavor>(bytes: &[u8]) -> bool
     ensures { IsTrue result ↔ BeginsChanged F.flavor bytes.now }
@@ -26,7 +27,7 @@ pub fn begins_changed<F: Flavor>(bytes: &[u8]) -> bool
     changes::<F>(prefix_of(bytes, &mut [0; PAIR_READ]))
 }
 
-/// Does so for eight bytes or more.
+/// Like `begins_changed`, for at least eight bytes, so that no copy is needed.
 #[inline(always)]
 pub fn changes<F: Flavor>(bytes: &[u8]) -> bool
     requires { PAIR_READ ≤ length bytes.now }
@@ -35,7 +36,7 @@ pub fn changes<F: Flavor>(bytes: &[u8]) -> bool
     is_pair(bytes) || F::has_long_null() && bytes[0] == 0xC0 && bytes[1] == 0x80
 }
 
-/// Returns the first eight bytes, or a copy with zeros after the last if they are fewer.
+/// Returns the first eight bytes. If there are fewer, returns a copy that is padded with zeros.
 #[inline(always)]
 pub fn prefix_of<'a>(bytes: &'a [u8], padded: &'a mut [u8; PAIR_READ]) -> &'a [u8]
     requires { padded.old ≡ replicate PAIR_READ 0 }

@@ -1,4 +1,5 @@
-//! Decodes to a caller's buffer: copies bytes that a call keeps, and writes the text of others.
+//! Decodes to a caller's slice. Input that the mode returns unchanged is copied, and other input is
+//! decoded.
 
 ghost use Rattle.cesu8_decode.specs.PutReadings.{PutsText, ReadsAs};
 
@@ -9,8 +10,9 @@ use cesu8_bytes::flavor::Flavor;
 use cesu8_bytes::strictness::{Reading, Strictness};
 use cesu8_bytes::writing::copies::copy_to_slice;
 
-/// Writes what a call that takes `A` reads in the bytes to a caller's buffer, if it fits, and
-/// returns its length in bytes.
+/// Writes the text of the input in mode `A` to the start of the slice, and returns its length in
+/// bytes. It is an error if the slice is too short, and then nothing is written; in strict decoding
+/// also if a byte is ill-formed.
 #[inline(always)]
 pub fn decode_to_slice<F: Flavor, A: Accepts, S: Reading>(
     bytes: &[u8],
@@ -39,7 +41,7 @@ fn decode_other_to_slice<F: Flavor, A: Accepts, S: Reading>(
     if front.len == bytes.len() {
         return copy_to_slice(bytes, buf).map_err(Unwritten::NoRoom);
     }
-    // `Ok` and `?` copy a result part by part: a copy of the whole would wait for the stores.
+    // `Ok` and `?` copy a result field by field: a copy of the whole would wait for the stores.
     match S::strictness() {
         Strictness::Strict => Ok(put_strictly::<F>(bytes, front, buf)?),
         Strictness::Lossy => Ok(put_lossily::<F>(bytes, front, buf)?),

@@ -1,7 +1,9 @@
-//! Where text is written. The crate calls `strings` and `slices`, and these call the others:
+//! The sinks: where the decoded text is written. The crate calls `strings` and `slices`, which use
+//! the other two:
 //!
-//! - `chunks`: the text of many bytes, chunk by chunk, to a `Vec` or a slice
-//! - `fronts`: strict text to a `Vec`, of few bytes or from one character that changes to the next
+//! - `chunks`: many bytes, chunk by chunk, to a `Vec` or a slice
+//! - `fronts`: strict decoding to a `Vec`, of at most 64 bytes, or from one converted character to
+//!   the next
 //! - `strings`: to a `Vec`, which becomes a `String`
 //! - `slices`: to a caller's slice
 

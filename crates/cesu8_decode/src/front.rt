@@ -1,9 +1,11 @@
-//! How many bytes at the front are whole characters: all that are encoded, or those of them that
-//! are the same in UTF-8. Decoding begins with this test, unless it is short ASCII. Strict reading
-//! of more than 64 bytes goes on where it stopped; other reading begins again.
+//! The length of a prefix of whole characters: of all encoded characters (the valid prefix), or
+//! only of those that are unchanged in UTF-8 (the unchanged prefix, in names `front`). If the ASCII
+//! fast path of a call fails, the call continues with the unchanged prefix. Strict decoding of more
+//! than 64 bytes continues after it, and other decoding starts again from the first byte.
 //!
-//! Vectors find the first byte that may not follow those before it. The front ends there, or at the
-//! last boundary before, if a character is cut off there. Of at most 64 bytes one window tells it.
+//! Vectors find the first byte that cannot follow the bytes before it (`lanes::following`). The
+//! prefix ends there, or at the last character boundary before that byte if a character is cut off.
+//! At most 64 bytes are one window instead, whose masks give the prefix.
 
 ghost use Rattle.std.specs.Prelude.{◌≡◌, ◌+◌, ◌-◌, ◌<◌, ◌≤◌, length, slice_index};
 ghost use Rattle.cesu8_decode.specs.Following.{FirstFollow, FollowUpTo, Encoded as AllEncoded, after_fillers, crosses_at, is_high_surrogate};
@@ -22,7 +24,7 @@ pub use few::FoundFront;
 use few::front_of_few;
 use std::simd::prelude::*;
 
-/// Returns the front of the bytes.
+/// Returns the unchanged prefix.
 #[inline(always)]
 pub fn front<F: Flavor>(bytes: &[u8]) -> FoundFront
     ensures { IsFrontOf F.flavor bytes.now result }
@@ -36,7 +38,8 @@ pub fn front<F: Flavor>(bytes: &[u8]) -> FoundFront
     }
 }
 
-/// Returns how many of more than 64 bytes at the front are whole characters of a set.
+/// Returns the length of the longest prefix of whole characters of a set. The input has more than
+/// 64 bytes.
 #[inline(always)]
 pub fn front_of_many<F: Flavor, S: CharacterSet>(bytes: &[u8]) -> usize
     requires { FEW_BYTES < length bytes.now }
@@ -45,9 +48,9 @@ pub fn front_of_many<F: Flavor, S: CharacterSet>(bytes: &[u8]) -> usize
     last_boundary::<F, S>(bytes, following_many::<F, S>(bytes))
 }
 
-/// Returns how many of more than 64 bytes may follow those before them, up to the first that may
-/// not: first those of whole groups of ASCII that stays, or else of one block. It is not inlined,
-/// since it is long.
+/// Returns the offset of the first byte that cannot follow the bytes before it, or the length if
+/// there is none. The input has more than 64 bytes. It first skips whole groups of unchanged ASCII,
+/// or else tests one block. It is not inlined, since it is long.
 #[inline(never)]
 fn following_many<F: Flavor, S: CharacterSet>(bytes: &[u8]) -> usize
     requires { FEW_BYTES < length bytes.now }
@@ -64,8 +67,9 @@ fn following_many<F: Flavor, S: CharacterSet>(bytes: &[u8]) -> usize
     following_from::<F, S>(bytes, run.max(BLOCK))
 }
 
-/// Returns how many bytes may follow those before them, up to the first that may not. It goes on
-/// from `start` by two blocks at once, and then by one, of which the last begins in the one before.
+/// Returns the offset of the first byte that cannot follow the bytes before it, or the length if
+/// there is none. It tests two blocks at once from `start` on, and then one block at a time. The
+/// last block overlaps the one before it.
 #[inline(always)]
 fn following_from<F: Flavor, S: CharacterSet>(bytes: &[u8], start: usize) -> usize
     requires first { FirstFollow S.set F.flavor bytes.now start }
@@ -79,7 +83,7 @@ fn following_from<F: Flavor, S: CharacterSet>(bytes: &[u8], start: usize) -> usi
         if len != BLOCK {
             return at + len;
         }
-        // That is `at + len`, but the next block need not wait for `len`.
+        // This is `at + len`, but the next block need not wait for `len`.
         at += BLOCK;
     }
     if at == bytes.len() {
@@ -90,8 +94,8 @@ fn following_from<F: Flavor, S: CharacterSet>(bytes: &[u8], start: usize) -> usi
     last + following_len::<F, S>(S::block_at(block, bytes, last))
 }
 
-/// Returns an offset before which all bytes may follow those before them. It goes on from `start`
-/// by two blocks at once, as long as all bytes of both may follow.
+/// Returns an offset up to which every byte can follow the bytes before it. It tests two blocks at
+/// once from `start` on, and stops before the first two with an error.
 #[inline(always)]
 fn following_twos<F: Flavor, S: CharacterSet>(bytes: &[u8], start: usize) -> usize
     requires first { FirstFollow S.set F.flavor bytes.now start }
@@ -106,9 +110,10 @@ fn following_twos<F: Flavor, S: CharacterSet>(bytes: &[u8], start: usize) -> usi
     at
 }
 
-/// Returns the last boundary up to `at` that no character crosses. The bytes before may follow each
-/// other, and the one at `at`, if there is one, may not. Where no character changes, one that is
-/// cut off begins in the last two. They are read first, so fewer branches may be guessed wrong.
+/// Returns the last character boundary up to `at`. All bytes before `at` can follow each other, and
+/// the byte at `at`, if there is one, cannot. If the set has no characters that need conversion, a
+/// character that is cut off begins in the last two bytes. Both bytes are loaded before the tests,
+/// to have fewer branches that can be mispredicted.
 #[inline(always)]
 fn last_boundary<F: Flavor, S: CharacterSet>(bytes: &[u8], at: usize) -> usize
     requires { FollowUpTo S.set F.flavor bytes.now at }
@@ -120,7 +125,8 @@ fn last_boundary<F: Flavor, S: CharacterSet>(bytes: &[u8], at: usize) -> usize
     if at == 0 {
         return at;
     }
-    // If there is only one byte before, it is read again, and is known to be no lead byte by then.
+    // If only one byte precedes `at`, it is loaded twice. The second test is reached only if it is
+    // no lead byte.
     let last = bytes[at - 1];
     let second = bytes[at.max(2) - 2];
     if last >= 0xC0 {
@@ -132,7 +138,8 @@ fn last_boundary<F: Flavor, S: CharacterSet>(bytes: &[u8], at: usize) -> usize
     }
 }
 
-/// Does so by one boundary after another, from `at` back.
+/// Like `last_boundary`, for a set with surrogate pairs: tests one offset after another, from `at`
+/// back.
 #[inline(always)]
 fn last_uncrossed<F: Flavor, S: CharacterSet>(bytes: &[u8], at: usize) -> usize
     requires { FollowUpTo S.set F.flavor bytes.now at }
@@ -145,7 +152,8 @@ fn last_uncrossed<F: Flavor, S: CharacterSet>(bytes: &[u8], at: usize) -> usize
     end
 }
 
-/// Returns whether a character or a surrogate pair may cross a boundary, by the bytes before it.
+/// Returns whether a character or a surrogate pair can cross an offset, judged by the four bytes
+/// before it.
 #[inline(always)]
 pub fn may_be_crossed<S: CharacterSet>(bytes: &[u8], at: usize) -> bool
     requires { at ≤ length bytes.now }
@@ -172,8 +180,8 @@ fn begins_high_surrogate(first: u8, second: u8) -> bool
     first == 0xED && matches!(second, 0xA0..=0xAF)
 }
 
-/// Returns the byte so many before an offset, or 0 if there is none. The four before an offset decide
-/// whether a character may cross it.
+/// Returns the byte that precedes an offset by `back` bytes, or 0 if there is none. The four bytes
+/// before an offset decide whether a character can cross it.
 #[inline(always)]
 fn byte_before(bytes: &[u8], at: usize, back: usize) -> u8
     requires at { at ≤ length bytes.now }

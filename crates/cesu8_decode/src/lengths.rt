@@ -1,5 +1,6 @@
-//! The lengths of the readings. That of the lossy reading is three bytes for each byte, less what
-//! each offset saves. If no byte is ill-formed, it is that of the strict reading.
+//! The length of the decoded text. U+FFFD has three bytes, so the lossily decoded text has three
+//! bytes for each input byte, less what each encoded character saves. If no byte is ill-formed, the
+//! strictly decoded text is the same text.
 
 ghost use Rattle.std.specs.Prelude.{◌≡◌, ◌<◌, IfSome, IfNone};
 ghost use Rattle.cesu8_text.specs.Reading.{IsStrictReading, HasNoStrictReading, lossy_length};
@@ -15,7 +16,8 @@ use cesu8_bytes::flavor::Flavor;
 use cesu8_bytes::lanes::class::LANES;
 use counts::{saved_by_few, saved_by_last, saved_by_step};
 
-/// Returns the length of the strict reading, if any. The longest front that stays counts as it is.
+/// Returns the length of the strictly decoded text in bytes, or `None` if a byte is ill-formed. The
+/// unchanged prefix is as long in UTF-8, so only the bytes after it are counted.
 pub fn decoded_len<F: Flavor>(bytes: &[u8]) -> Option<usize>
     ensures some { IfSome result (λ len.
         ReadsAtLength (IsStrictReading F.flavor bytes.now) (λ text_len. len ≡ text_len)) }
@@ -33,7 +35,7 @@ pub fn decoded_len<F: Flavor>(bytes: &[u8]) -> Option<usize>
     Some(front + rest_len)
 }
 
-/// Returns the length of the lossy reading, in bytes of UTF-8, if it fits.
+/// Returns the length of the lossily decoded text in bytes, or `None` if it does not fit `usize`.
 pub fn lossy_len<F: Flavor>(bytes: &[u8]) -> Option<usize>
     ensures some { IfSome result (λ len. len ≡ lossy_length F.flavor bytes.now) }
     ensures none { IfNone result (usize.MAX < lossy_length F.flavor bytes.now) }

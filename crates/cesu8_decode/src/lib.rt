@@ -1,25 +1,27 @@
-//! The decoder. Its names are no promise to users: `simd_cesu8` has the public calls.
+//! The decoder: turns CESU-8 or MUTF-8 into UTF-8. It is an internal crate: users call
+//! `simd_cesu8`.
 //!
-//! At most six bytes decide whether an encoded character begins at an offset, and no two overlap.
-//! So the nearby bytes decide what becomes of a byte in the lossy reading: it stays, changes, goes,
-//! or is ill-formed and replaced. In strict reading no byte may be ill-formed.
+//! An encoded character has at most six bytes, two never overlap, and its own bytes alone decide
+//! whether one begins at an offset. So the bytes near an offset decide what lossy decoding makes of
+//! the byte there: it is copied, converted, dropped, or ill-formed and replaced by U+FFFD. In
+//! strict decoding an ill-formed byte is an error.
 //!
-//! In the order of the data:
+//! The modules, in the order in which a call uses them:
 //!
-//! - `accepts`: what a call takes
-//! - `lanes`: what vectors tell of 32 or 64 bytes, with no branch on a single byte
-//! - `front`: how many bytes are whole characters that are the same in UTF-8, with which each call
-//!   begins
-//! - `valid`: how many bytes at the front are whole encoded characters
-//! - `utf8`: whether bytes are UTF-8, which lenient calls test from the end of the front on
-//! - `lengths`: the lengths of the readings
-//! - `way`: which way other bytes go
-//! - `changed`: whether bytes begin with a character that changes
-//! - `pass`: at most 64 bytes by one window, and more in one pass by windows
-//! - `destinations`: the text of a `String` or of a caller's slice
-//! - `copy_or_write`: a slice again, with what stays copied
+//! - `accepts`: the modes, lenient and encoding alone
+//! - `lanes`: vector code for 32 or 64 bytes, with no branch on a single byte
+//! - `front`: the length of the prefix of whole characters that are unchanged in UTF-8; decoding
+//!   begins with this test
+//! - `valid`: the length of the prefix of whole encoded characters
+//! - `utf8`: whether bytes are UTF-8, which lenient calls test after the unchanged prefix
+//! - `lengths`: the length of the decoded text
+//! - `way`: which strategy decodes input that needs conversion
+//! - `changed`: whether bytes begin with a character that needs conversion
+//! - `pass`: the decoding loop: one window for at most 64 bytes, successive windows for more
+//! - `destinations`: decoding to a `String` and to a caller's slice
+//! - `copy_or_write`: decoding to a caller's slice that copies unchanged input
 //!
-//! `refusal` has why there is no text.
+//! `refusal` has the errors.
 #![tactic(auto)]
 
 ghost use Rattle.std.specs.Prelude.{◌≡◌, ◌<◌, length, IfOk};
@@ -51,8 +53,9 @@ use destinations::strings::{build_lossily, write_strictly};
 pub use lengths::{decoded_len, lossy_len};
 use std::alloc::{AllocError, Global};
 
-/// Returns the strict reading of bytes, after one request for their length. `front` tells where its
-/// test stopped: before are whole characters that are the same in UTF-8, but not all bytes.
+/// Returns the strictly decoded text, or an error if a byte is ill-formed or the allocation fails.
+/// Allocates once, as many bytes as the input has. `front` is the unchanged prefix, which is not
+/// the whole input.
 #[inline(never)]
 pub fn decode_strict<F: Flavor>(
     alloc: Global,
@@ -72,9 +75,10 @@ pub fn decode_strict<F: Flavor>(
     }
 }
 
-/// Returns the lossy reading of the bytes, behind a front as above, after one request for its
-/// length. A length over `usize` counts as refused. Up to 4,096 bytes (`LARGEST_ARRAY`) in front
-/// are decoded to the stack before that, so that these need no pass for their length.
+/// Returns the lossily decoded text. Allocates once, exactly its length; a length over `usize` is
+/// reported as a failed allocation. `front` is the unchanged prefix, which is not the whole input.
+/// At most the first 4,096 bytes (`LARGEST_ARRAY`) are decoded to the stack before the allocation,
+/// so that they need no separate pass for their length.
 #[inline(never)]
 pub fn decode_lossy<F: Flavor>(
     alloc: Global,

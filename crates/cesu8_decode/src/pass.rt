@@ -1,9 +1,9 @@
-//! The pass that reads bytes and writes their text, in the order of the data:
+//! The pass: the loop that decodes bytes window by window. In the order of the data:
 //!
-//! - `events`: what the bytes of a window become
-//! - `window`: one window
-//! - `windows`: one window after another, as many as a buffer has room for
-//! - `few`: up to 64 bytes, by a window without the pass
+//! - `events`: writes the text of a window
+//! - `window`: finds the events of one window and writes its text
+//! - `windows`: successive windows, until the input ends or the buffer is full
+//! - `few`: at most 64 bytes, as one window without the loop
 
 pub mod events;
 pub mod few;

@@ -1,24 +1,24 @@
-//! Why the decoder returns or writes no text. `simd_cesu8` turns these into faults of its calls.
+//! The errors of the decoder. `simd_cesu8` converts them to the public errors of its calls.
 
 use cesu8_bytes::writing::copies::NoRoom;
 use std::alloc::AllocError;
 
-/// Why strict reading builds no text. Lossy reading always has one, and fails by `AllocError`.
+/// Why strict decoding to a `String` fails. Lossy decoding can fail only by `AllocError`.
 #[derive(Drop)]
 pub enum Refusal {
-    /// The bytes have no text.
+    /// A byte is ill-formed.
     NoText,
-    /// A request for memory was refused.
+    /// An allocation failed.
     Memory(AllocError),
 }
 
-/// Why no text is written to a caller's buffer.
+/// Why decoding to a caller's slice fails. The slice is then unchanged.
 #[derive(Clone, Copy)]
 pub enum Unwritten {
-    /// The bytes have no text, in strict reading.
+    /// In strict decoding, a byte is ill-formed.
     NoText,
-    /// The length of the text does not fit `usize`, in lossy reading.
+    /// In lossy decoding, the length of the text does not fit `usize`.
     TooLong,
-    /// The buffer is shorter than the text.
+    /// The slice is shorter than the text.
     NoRoom(NoRoom),
 }

@@ -16,15 +16,15 @@ use cesu8_bytes::lanes::search::any_in_bytes;
 use simdutf8::Checker;
 use std::simd::prelude::*;
 
-/// The most bytes of a part after the first, which has at most 64.
+/// The most bytes of a part. The first part is shorter, at most 64 bytes.
 const PART: usize = 16 * LANES;
 
-/// Returns whether the bytes are UTF-8. It is not inlined, so that its callers stay short.
+/// Returns whether the bytes are UTF-8. It is not inlined, so that its callers are small.
 #[inline(never)]
 pub fn is_utf8_by_parts(bytes: &[u8]) -> bool
     ensures { IsTrue result ↔ IsUtf8 bytes.now }
 {
-    // The compiler knows half of the vector to be zero here.
+    // Here the compiler knows that half of the vector is zero.
     if is_one_block(bytes) {
         return is_rest_utf8(Checker::new(), bytes);
     }
@@ -32,14 +32,14 @@ pub fn is_utf8_by_parts(bytes: &[u8]) -> bool
     if !is_rest_utf8(Checker::new(), &bytes[..first]) {
         return false;
     }
-    // A character of four bytes often stands alone in ASCII, which needs no `Checker`.
+    // Often one character of four bytes is followed by ASCII alone, which needs no `Checker`.
     if !any_in_bytes::<NonAscii>(&bytes[first..]) {
         return true;
     }
     are_parts_utf8(&bytes[first..])
 }
 
-/// Like `is_utf8_by_parts`, by parts of `PART` bytes alone.
+/// Like `is_utf8_by_parts`, but every part has up to `PART` bytes.
 #[inline(always)]
 fn are_parts_utf8(bytes: &[u8]) -> bool
     ensures { IsTrue result ↔ IsUtf8 bytes.now }
@@ -55,7 +55,8 @@ fn are_parts_utf8(bytes: &[u8]) -> bool
     true
 }
 
-/// Returns where a part of at most `most` bytes ends. In UTF-8 that is between two characters.
+/// Returns the end of a part that has at most `most` bytes. In UTF-8 the end is a character
+/// boundary.
 #[inline(always)]
 fn part_end(bytes: &[u8], start: usize, most: usize) -> usize
     requires start { start < length bytes.now }
@@ -70,8 +71,9 @@ fn part_end(bytes: &[u8], start: usize, most: usize) -> usize
     character_start(bytes, start + most)
 }
 
-/// Returns where the character begins that has a byte at `at`, if the bytes are UTF-8: up to three
-/// bytes before, since no more than three continuation bytes follow each other.
+/// Returns the offset of the first byte of the character that has a byte at `at`, if the bytes are
+/// UTF-8. It is at most three bytes back, since no more than three continuation bytes follow each
+/// other.
 #[inline(always)]
 fn character_start(bytes: &[u8], at: usize) -> usize
     requires { (3 ≤ at) × (at < length bytes.now) }
@@ -108,7 +110,8 @@ fn is_part_utf8(bytes: &[u8]) -> bool
     is_rest_utf8(checker, &bytes[at..])
 }
 
-/// Returns whether what a checker has read is UTF-8 together with the rest, at most 64 bytes.
+/// Returns whether the bytes that a checker has read and the rest, at most 64 bytes, are UTF-8
+/// together.
 #[inline(always)]
 fn is_rest_utf8(checker: Checker, rest: &[u8]) -> bool
     requires { length rest.now ≤ LANES }

@@ -1,7 +1,8 @@
-//! How many bytes at the front are whole encoded characters: the valid prefix.
+//! The length of the valid prefix: how many bytes from the start are whole encoded characters.
 //!
-//! One window tells which of at most 64 bytes no character covers. Of more, the test of the front
-//! finds the first byte that may not follow those before it.
+//! At most 64 bytes are one window, whose masks show the bytes that no character covers. In longer
+//! input vectors find the first byte that cannot follow the bytes before it, and the prefix ends at
+//! the last character boundary up to there.
 
 ghost use Rattle.std.specs.Prelude.{◌≡◌, ◌≤◌, IsTrue, false, length};
 ghost use Rattle.cesu8_text.specs.Fronts.{IsValidUpTo};
@@ -15,7 +16,7 @@ use cesu8_bytes::flavor::Flavor;
 use cesu8_bytes::lanes::class::LANES;
 use cesu8_bytes::looks::is_short_unchanged_ascii;
 
-/// Returns how many bytes at the front are whole encoded characters.
+/// Returns the length of the valid prefix.
 #[inline(always)]
 pub fn valid_up_to<F: Flavor>(bytes: &[u8]) -> usize
     ensures { IsValidUpTo F.flavor bytes.now result }
@@ -38,7 +39,7 @@ pub fn valid_up_to_other<F: Flavor>(bytes: &[u8]) -> usize
     front_of_many::<F, Encoded>(bytes)
 }
 
-/// Returns whether some byte is in no encoded character. It stops soon after the first such byte.
+/// Returns whether a byte is ill-formed. It stops soon after the first such byte.
 #[inline(always)]
 pub fn is_ill_formed<F: Flavor>(bytes: &[u8]) -> bool
     ensures ill_formed { IsTrue result → HasNoStrictReading F.flavor bytes.now }
@@ -48,7 +49,7 @@ pub fn is_ill_formed<F: Flavor>(bytes: &[u8]) -> bool
     valid_up_to_other::<F>(bytes) < bytes.len()
 }
 
-/// Returns how many of at most 64 bytes at the front are whole encoded characters.
+/// Returns the length of the valid prefix of at most 64 bytes.
 #[inline(always)]
 fn valid_up_to_few<F: Flavor>(bytes: &[u8]) -> usize
     requires { length bytes.now ≤ LANES }

@@ -1,7 +1,7 @@
-//! Which way bytes are decoded that do not all stay, by how many they are: in lossy reading all of
-//! them, and in strict reading of more than 64 to a slice those from the front on.
+//! The strategy for input that needs conversion, chosen by its length. In strict decoding of more
+//! than 64 bytes to a slice, the length is that of the bytes after the unchanged prefix.
 //!
-//! | bytes | way | strict | lossy |
+//! | bytes | strategy | strict | lossy |
 //! |---|---|---|---|
 //! | at most 64 (`FEW_BYTES`) | `Few` | one window | one window |
 //! | at most 256 (`SMALL_ARRAY`) | `SmallArray` | a small array | a small array |
@@ -9,28 +9,32 @@
 //! | at most 4,096 (`LARGEST_ARRAY`) | `LargestArray` | chunks | the largest array |
 //! | more | `Chunks` | chunks | chunks |
 //!
-//! - One window: the test of the front makes the masks of a window. If no byte is ill-formed, `few`
-//!   of `pass` writes the text by the mask of the characters that change. Otherwise strict reading
-//!   returns an error, and lossy reading makes all masks again.
-//! - The arrays: one pass, window after window of 64 bytes, with few branches on what is in them,
-//!   which would be guessed wrong. The text is copied from there. The lengths are for speed alone:
-//!   a larger array takes longer to clear, and more stack, for lossy text three bytes for each.
-//! - Chunks: the pass stops where a buffer is full, and goes on there. A `String` is written in
-//!   place, over as many zeros at once as `CLEARED_AT_ONCE` of `chunks`. A slice, which may be too
-//!   short, is copied from a large array, after a test of all in strict reading, and their length
-//!   if needed. In lossy reading to a `String` only what is behind 4,096 bytes is counted.
+//! - One window: the test for the unchanged prefix has computed the masks of a window. If no byte
+//!   is ill-formed, `pass::few` writes the text by the mask of the characters that need conversion.
+//!   Otherwise strict decoding returns an error, and lossy decoding computes all masks again.
+//! - The arrays: one pass over the bytes in windows of 64, written to an array on the stack from
+//!   which the text is copied. The pass has few branches on the content of a window, since they
+//!   would be mispredicted. The sizes are a matter of speed: a larger array takes longer to clear
+//!   and more stack, three bytes for each input byte in lossy decoding.
+//! - Chunks: the pass stops when its buffer is full, and continues with an empty one. A `String` is
+//!   written in place, over `CLEARED_AT_ONCE` (in `chunks`) zeros at a time. A slice may be too
+//!   short, so its text is copied from a large array, after strict decoding has validated all
+//!   bytes, and after a pass for the length if that is needed. Lossy decoding to a `String` counts
+//!   only the bytes after the first 4,096.
 //!
-//! In strict reading to a `String`, `fronts` of `destinations` reads more than 64 bytes, as long as
-//! changes stand far apart: 16 bytes (`FRONT`), then 64 (`LONG_FRONT`). Of a rest, at most 64 bytes
-//! go by one window, and more by chunks, from a small array if little room is left. In all strict
-//! reading, more that end within a character are refused before an array or chunks read them.
+//! Strict decoding of more than 64 bytes to a `String` goes from one converted character to the
+//! next (`destinations::fronts`) as long as these are far apart: the first after at least 16 bytes
+//! (`FRONT`), and each later one after at least 64 (`LONG_FRONT`). The rest is decoded by one
+//! window if it has at most 64 bytes, and otherwise by chunks, which use a small array if the
+//! `String` has little capacity left. Before strict decoding starts an array or chunks, it rejects
+//! input that ends within a character.
 
 ghost use Rattle.std.specs.Prelude.{◌≤◌, ◌↔◌, IsTrue, length};
 ghost use Rattle.cesu8_decode.specs.Decoding.{Takes};
 
 use cesu8_bytes::BLOCK;
 
-/// Which way bytes are decoded.
+/// The strategies, from the one for the shortest input on.
 #[derive(Clone, Copy)]
 pub enum Way {
     Few,
@@ -40,19 +44,19 @@ pub enum Way {
     Chunks,
 }
 
-/// The most bytes that one window reads: a mask of 64 bits has one for each.
+/// The most bytes that one window holds: a mask has 64 bits, one for each byte.
 pub const FEW_BYTES: usize = 2 * BLOCK;
 
-/// The most bytes whose text goes to the small array.
+/// The most bytes that are decoded to the small array.
 pub const SMALL_ARRAY: usize = 256;
 
-/// The most bytes whose text goes to the large array at once.
+/// The most bytes that are decoded to the large array at once.
 pub const LARGE_ARRAY: usize = 1024;
 
-/// The most bytes whose lossy text goes to an array, so that it needs no pass for its length.
+/// The most bytes that lossy decoding writes to an array, so that no pass for the length is needed.
 pub const LARGEST_ARRAY: usize = 4096;
 
-/// Returns which way bytes go.
+/// Returns the strategy for the bytes.
 #[inline(always)]
 pub fn way_of(bytes: &[u8]) -> Way
     ensures { Takes result bytes.now }
@@ -66,7 +70,7 @@ pub fn way_of(bytes: &[u8]) -> Way
     }
 }
 
-/// Returns whether the bytes are those of one block at most.
+/// Returns whether the bytes fit in one block, 32 bytes.
 #[inline(always)]
 pub fn is_one_block(bytes: &[u8]) -> bool
     ensures { IsTrue result ↔ length bytes.now ≤ BLOCK }
@@ -74,7 +78,7 @@ pub fn is_one_block(bytes: &[u8]) -> bool
     bytes.len() <= BLOCK
 }
 
-/// Returns whether one window reads all of the bytes.
+/// Returns whether the bytes fit in one window, 64 bytes.
 #[inline(always)]
 pub fn are_few(bytes: &[u8]) -> bool
     ensures { IsTrue result ↔ length bytes.now ≤ FEW_BYTES }

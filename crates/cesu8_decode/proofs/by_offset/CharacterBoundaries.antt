@@ -1,4 +1,5 @@
--- Offsets that no encoded character reaches over, told by the widths at the five before.
+-- Character boundaries: offsets that no encoded character crosses, by the widths at the five
+-- offsets before.
 use Rattle.std.proofs.Common.{◌≡◌, ℕ, ◌+◌, ◌-◌, ◌<◌, ◌≤◌, ◌⊎◌, ⊎_elim, true, List, ◌∷◌, refl, ap, ◌∙◌, subst, arith, length, take, drop, get_or, zero-add, length-drop, eqb}
 use Rattle.std.proofs.lemmas.Bool.{agree_below_at, eqb-true, cases_lt}
 use Rattle.std.proofs.lemmas.List.{take-append-drop, length-take-le}
@@ -12,30 +13,30 @@ use Rattle.cesu8_text.proofs.reading.Stretches.{no_overlap}
 use Rattle.cesu8_decode.proofs.by_offset.WidthTests.{width_tells}
 use Rattle.cesu8_decode.proofs.by_offset.WindowOffsets.{is_boundary_at, Follows, width_in}
 
--- ---- the widths there are
+-- ---- the widths that there are
 
--- A width is 3 at most, or 6.
+-- A width is at most 3, or it is 6.
 pub width_bounds : (f : Flavor) (window : List ℕ) (i : ℕ) → (width_at f window i ≤ 3) ⊎ (width_at f window i ≡ 6)
 width_bounds f window i = (width_tells f _ _ _ _ _ _).0
 
--- A zero is no character of two bytes or more.
+-- At a zero no character of two bytes or more begins.
 pub zero_width : (f : Flavor) (window : List ℕ) (i : ℕ) → get_or window i 0 ≡ 0 → width_at f window i ≤ 1
 unfolding first_width_by
 zero_width f window i null = grind (arith, nat_tests)
 
 -- ---- boundaries
 
--- A character that begins before a boundary, in the five offsets there, ends before it.
+-- A character that begins at one of the five offsets before a boundary ends at or before it.
 pub boundary_ends : (f : Flavor) (window : List ℕ) (i : ℕ) → is_boundary_at f window i ≡ true → (s : ℕ) → s < 5 →
     width_at f window (i + s) + s ≤ 5
 boundary_ends f window i boundary s small = grind (arith, nat_tests)
 
--- Where each does, there is a boundary.
+-- If each of these characters ends there, the offset is a boundary.
 pub boundary_where : (f : Flavor) (window : List ℕ) (i : ℕ) → ((s : ℕ) → s < 5 → width_at f window (i + s) + s ≤ 5) →
     is_boundary_at f window i ≡ true
 boundary_where f window i ends = grind (arith, nat_tests)
 
--- There is one behind five zeros.
+-- The offset after five zeros is a boundary.
 pub boundary_of_zeros : (f : Flavor) (bytes : List ℕ) → is_boundary_at f (0 ∷ 0 ∷ 0 ∷ 0 ∷ 0 ∷ bytes) 0 ≡ true
 boundary_of_zeros f bytes =
     let w : ℕ → ℕ = λ i. get_or (0 ∷ 0 ∷ 0 ∷ 0 ∷ 0 ∷ bytes) i 0 in
@@ -47,7 +48,7 @@ boundary_of_zeros f bytes =
 
 -- ---- boundaries in bytes
 
--- The width at an offset is that of the character that begins there.
+-- The width at an offset is the width of the character that begins there.
 pub width_of_standing : (f : Flavor) (window bytes : List ℕ) (i c : ℕ) → Follows window bytes 5 → i < length bytes → StandsAt f bytes i c →
     width_at f window (i + 5) ≡ width f c
 width_of_standing f window bytes i c follows inside stands =
@@ -66,7 +67,7 @@ none_crosses_boundary f window bytes n follows fits boundary i c stands inside =
     (λ (far : i + 6 ≤ n). omega (arith, width_bounds f window (i + 5)))
     (cases_lt n (i + 6))
 
--- A character is behind those before it.
+-- A character begins at or after the end of every earlier character.
 pub ends_before : (f : Flavor) (window bytes : List ℕ) (p i : ℕ) → Follows window bytes 5 → p < i → i < length bytes →
     0 < width_at f window (i + 5) → p + width_at f window (p + 5) ≤ i
 ends_before f window bytes p i follows before inside some =

@@ -1,4 +1,4 @@
--- What the bytes become, each by its neighbours, is the UTF-8 of the lossy reading.
+-- What is written for the bytes, each by its neighbours, is the UTF-8 of the lossy reading.
 use Rattle.std.proofs.Common.{◌≡◌, ℕ, ◌+◌, ◌*◌, ◌/◌, ◌%◌, ◌<◌, ◌≤◌, eqb, leb, List, [], ◌∷◌, ◌++◌, refl, sym, ap, ◌∙◌, ⊎_elim, arith}
 use Rattle.std.proofs.lemmas.Bool.{ne_eqb, lt-leb}
 use Rattle.cesu8_text.specs.Text.{IsScalarValue, utf8_of, utf8}
@@ -12,7 +12,7 @@ use Rattle.cesu8_decode.proofs.by_offset.FirstWidths.{ascii_forms, encoded_width
 use Rattle.cesu8_text.proofs.reading.Cuttings.{greedy_cutting}
 use Rattle.cesu8_text.proofs.reading.Greedy.{places}
 
--- What bytes become behind two others, and behind five offsets of such widths.
+-- What is written for bytes that follow two given bytes and five offsets of given widths.
 unfoldable pub decoded_after : Flavor → (w1 w2 w3 w4 w5 two_before before : ℕ) → List ℕ → List ℕ
 decoded_after f w1 w2 w3 w4 w5 two_before before [] = []
 decoded_after f w1 w2 w3 w4 w5 two_before before (b ∷ bytes) =
@@ -21,11 +21,12 @@ decoded_after f w1 w2 w3 w4 w5 two_before before (b ∷ bytes) =
 
 -- ---- widths of characters that have ended
 
--- Two widths are alike in each test against a number over n.
+-- No test against a number greater than n distinguishes the two widths.
 abbrev Alike : ℕ → ℕ → ℕ → Type 0
 Alike n v w = (m : ℕ) → n < m → (eqb v m ≡ eqb w m) × (leb m v ≡ leb m w)
 
--- No width at the offset n before is tested against n or less.
+-- The width n offsets earlier is never tested against n or less, so such widths give the same
+-- result.
 byte_alike : (w0 v1 v2 v3 v4 v5 w1 w2 w3 w4 w5 p q b : ℕ) → Alike 1 v1 w1 → Alike 2 v2 w2 → Alike 3 v3 w3 → Alike 4 v4 w4 → Alike 5 v5 w5 →
     decoded_byte w0 v1 v2 v3 v4 v5 p q b ≡ decoded_byte w0 w1 w2 w3 w4 w5 p q b
 unfolding decoded_byte
@@ -47,7 +48,7 @@ ended : (n w : ℕ) → w ≤ n → Alike n w 0
 ended n w small m over =
     (ne_eqb w m (λ e. omega arith) ∙ sym (ne_eqb 0 m (λ e. omega arith)), lt-leb m w (omega arith) ∙ sym (lt-leb m 0 (omega arith)))
 
--- Behind characters that have ended, bytes become the same as behind none.
+-- After characters that have ended, what is written for bytes is the same as after none.
 behind_ended : (f : Flavor) (bytes : List ℕ) (w1 w2 w3 w4 w5 p q : ℕ) → w1 ≤ 1 → w2 ≤ 2 → w3 ≤ 3 → w4 ≤ 4 → w5 ≤ 5 →
     decoded_after f w1 w2 w3 w4 w5 p q bytes ≡ decoded_after f 0 0 0 0 0 p q bytes
 behind_ended f bytes w1 w2 w3 w4 w5 p q h1 h2 h3 h4 h5 =
@@ -55,11 +56,11 @@ behind_ended f bytes w1 w2 w3 w4 w5 p q h1 h2 h3 h4 h5 =
 
 -- ---- what the bytes of a character become
 
--- what bytes become behind none, whatever the two bytes before
+-- What is written for the bytes after no character, for any two bytes before.
 abbrev Become : Flavor → List ℕ → List ℕ → Type 0
 Become f bytes text = (p q : ℕ) → decoded_after f 0 0 0 0 0 p q bytes ≡ text
 
--- so it is behind some that have ended
+-- It is also what is written for them after characters that have ended.
 continued : (f : Flavor) (rest text : List ℕ) (w1 w2 w3 p q : ℕ) → Become f rest text → w1 ≤ 1 → w2 ≤ 2 → w3 ≤ 3 →
     decoded_after f w1 w2 w3 0 0 p q rest ≡ text
 continued f rest text w1 w2 w3 p q become h1 h2 h3 =
@@ -131,7 +132,7 @@ pair_read f c w x y z rest text scalar digits become p q =
       become g h,
     ) refl
 
--- ---- by the pieces, from the first on
+-- ---- by the pieces, from the first one on
 
 character_read : (f : Flavor) (c : ℕ) (rest text : List ℕ) → IsScalarValue c → Shape c → Become f rest text →
     Become f (encoding f (c ∷ []) ++ rest) (utf8_of c ++ text)
@@ -158,7 +159,7 @@ pieces_read f (Character c ∷ pieces) are_pieces is_greedy =
 pieces_read f (Replaced b ∷ pieces) are_pieces is_greedy =
     replaced_read f b (bytes_of f pieces) (utf8 (text_of pieces)) is_greedy.0 (pieces_read f pieces are_pieces.1 is_greedy.1)
 
--- Bytes behind characters that have ended become the UTF-8 of the lossy reading.
+-- What is written for bytes after characters that have ended is the UTF-8 of the lossy reading.
 pub decoded_after_ended : (f : Flavor) (bytes : List ℕ) (w1 w2 w3 w4 w5 p q : ℕ) → w1 ≤ 1 → w2 ≤ 2 → w3 ≤ 3 → w4 ≤ 4 → w5 ≤ 5 →
     decoded_after f w1 w2 w3 w4 w5 p q bytes ≡ utf8 (reading f bytes)
 decoded_after_ended f bytes w1 w2 w3 w4 w5 p q h1 h2 h3 h4 h5 =

@@ -1,4 +1,4 @@
--- What the bytes of a window become, between boundaries, is the UTF-8 of their lossy reading.
+-- What is written for the bytes of a window between boundaries is the UTF-8 of their lossy reading.
 use Rattle.std.proofs.lemmas.Bool.Decides.{nat_tests}
 use Rattle.std.proofs.Common.{◌≡◌, ℕ, ◌+◌, ◌≤◌, true, List, [], ◌∷◌, ◌++◌, refl, sym, ap, ◌∙◌, arith, length, take, drop, get_or, length-drop, zero-add, add-zero, subst}
 use Rattle.std.specs.Prelude.{slice_index}
@@ -13,7 +13,7 @@ use Rattle.cesu8_decode.proofs.by_offset.DecodedBytes.{decoded_after, decoded_af
 use Rattle.cesu8_decode.proofs.by_offset.WindowOffsets.{is_boundary_at, Follows, follows_later, width_following, decoded_split}
 use Rattle.cesu8_decode.proofs.by_offset.CharacterBoundaries.{boundary_ends, none_crosses_boundary}
 
--- by the bytes, from the first on
+-- What is written for the bytes by their index is what `decoded_after` gives for them.
 by_index : (f : Flavor) (window bytes : List ℕ) (i : ℕ) → Follows window bytes (i + 5) →
     decoded f window i (length bytes)
     ≡ decoded_after f (width_at f window (i + 4)) (width_at f window (i + 3)) (width_at f window (i + 2)) (width_at f window (i + 1))
@@ -34,12 +34,12 @@ by_index f window (b ∷ bytes) i follows =
     ++ (rest ∙ (λ k. decoded_after f ((ap w e4 ∙ width) k) (w (e3 k)) (w (e2 k)) (w (e1 k)) (w (i + 1))
     (get_or window (e3 k) 0) ((ap (λ p. get_or window p 0) e4 ∙ first) k) bytes)) k)
 
--- From a boundary on, all bytes become the UTF-8 of their lossy reading.
+-- What is written for all bytes from a boundary on is the UTF-8 of their lossy reading.
 pub decoded_from_boundary : (f : Flavor) (window bytes : List ℕ) (i : ℕ) → Follows window bytes (i + 5) → is_boundary_at f window i ≡ true →
     decoded f window i (length bytes) ≡ utf8 (reading f bytes)
 decoded_from_boundary f window bytes i follows boundary = grind (arith, nat_tests, boundary_ends, by_index, decoded_after_ended)
 
--- Between two boundaries they become that of theirs.
+-- What is written for the bytes between two boundaries is the UTF-8 of their lossy reading.
 pub decoded_between : (f : Flavor) (window bytes : List ℕ) (n : ℕ) → Follows window bytes 5 → n ≤ length bytes →
     is_boundary_at f window 0 ≡ true → is_boundary_at f window n ≡ true →
     decoded f window 0 n ≡ utf8 (reading f (take n bytes))

@@ -1,4 +1,4 @@
--- How wide the character is that begins bytes.
+-- The width of the character that begins some bytes.
 use Rattle.std.proofs.Common.{◌≡◌, ℕ, ◌<◌, ◌≤◌, List, [], ◌∷◌, ◌++◌, Option, Some, None, ◌⊎◌, inl, inr, refl, sym, ap, ◌∙◌, ⊎_elim, arith, drop, length, length-append}
 use Rattle.std.proofs.lemmas.Bool.{cases_eq, cases_lt}
 use Rattle.cesu8_text.specs.Text.{IsScalarValue}
@@ -17,16 +17,16 @@ ascii_forms Mutf8 c ascii =
     ⊎_elim (λ null. inr (null, encoding_one Mutf8 c ascii ∙ short_form_null c null))
     (λ some. inl (encoding_one Mutf8 c ascii ∙ short_form_other Mutf8 c some)) (cases_eq c 0)
 
--- An encoding and what follows begin with its character.
+-- The encoding of a character, and whatever follows it, begins with this character.
 pub begins_encoded : (f : Flavor) (c : ℕ) (prefix rest : List ℕ) → IsScalarValue c → encoding f (c ∷ []) ≡ prefix →
     BeginsWith f (prefix ++ rest) c rest
 begins_encoded f c prefix rest scalar same = record { scalar = scalar; bytes_are = ap (λ bs. bs ++ rest) (sym same) }
 
--- The width of bytes is that of the character that begins them.
+-- The width of bytes is the width of the character that begins them.
 pub width_of_first : (f : Flavor) (bytes : List ℕ) (c : ℕ) (rest : List ℕ) → BeginsWith f bytes c rest → first_width f bytes ≡ width f c
 width_of_first f bytes c rest begins = ap (width_of f) (standing_is f bytes c rest begins)
 
--- A character begins the bytes, and is as wide as they say.
+-- A character begins the bytes, and has their width.
 pub record IsWide (f : Flavor) (bytes : List ℕ) : Type 0 where
   pub character : ℕ
   pub rest : List ℕ
@@ -42,30 +42,31 @@ wide_by f bytes (Some c) found some = record {
   wide = ap (width_of f) found;
 }
 
--- One does where the width is not 0.
+-- If the width is not 0, a character begins the bytes.
 pub wide : (f : Flavor) (bytes : List ℕ) → 0 < first_width f bytes → IsWide f bytes
 wide f bytes some = wide_by f bytes (standing f bytes) refl some
 
--- The width is no more than the bytes.
+-- The width is at most the length of the bytes.
 pub width_fits : (f : Flavor) (bytes : List ℕ) → first_width f bytes ≤ length bytes
 width_fits f bytes =
     ⊎_elim (λ some. let found = wide f bytes some in
     omega (arith, found.wide, ap length found.begins.bytes_are, length-append (encoding f (found.character ∷ [])) found.rest))
     (λ (none : first_width f bytes ≤ 0). omega arith) (cases_lt 0 (first_width f bytes))
 
--- It is 0 where none begins them.
+-- If no character begins the bytes, the width is 0.
 pub width_of_none : (f : Flavor) (bytes : List ℕ) → NoneBegins f bytes → first_width f bytes ≡ 0
 width_of_none f bytes none_begins =
     ⊎_elim (λ some. let found = wide f bytes some in absurd (none_begins found.character found.rest found.begins))
     (λ (none : first_width f bytes ≤ 0). omega arith) (cases_lt 0 (first_width f bytes))
 
--- None begins inside a character.
+-- No character begins inside a character.
 pub width_inside : (f : Flavor) (bytes : List ℕ) (c j : ℕ) (rest : List ℕ) → BeginsWith f bytes c rest → 0 < j → j < width f c →
     first_width f (drop j bytes) ≡ 0
 width_inside f bytes c j rest begins later inside =
     width_of_none f (drop j bytes) (λ d more other. none_inside f bytes c d j rest begins (more, other) later inside)
 
--- So it is with the offsets of an encoded character: all its bytes begin at the first, and none at another.
+-- The width at the first offset of an encoded character is its length, and at its other offsets it
+-- is 0.
 pub encoded_widths : (f : Flavor) (c b : ℕ) (prefix rest : List ℕ) → IsScalarValue c → encoding f (c ∷ []) ≡ b ∷ prefix →
     (first_width f (b ∷ prefix ++ rest) ≡ length (b ∷ prefix)) × ((j : ℕ) → 0 < j → j ≤ length prefix → first_width f (drop j (b ∷ prefix ++ rest)) ≡ 0)
 encoded_widths f c b prefix rest scalar same =

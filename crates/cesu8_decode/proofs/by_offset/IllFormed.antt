@@ -1,4 +1,4 @@
--- Bytes have a strict reading exactly where encoded characters cover them all.
+-- Bytes have a strict reading if and only if encoded characters cover all of them.
 use Rattle.std.proofs.Common.{◌≡◌, ℕ, ◌+◌, ◌-◌, ◌<◌, ◌≤◌, ◌⊎◌, ⊎_elim, true, false, List, [], ◌∷◌, ◌++◌, refl, sym, ap, ◌∙◌, subst, inl, inr, arith, length, drop, length-append, append_assoc, add-zero, zero-add, length-drop}
 use Rattle.std.proofs.lemmas.Bool.{cases_lt}
 use Rattle.std.proofs.lemmas.Bool.Decides.{nat_tests}
@@ -22,11 +22,12 @@ use Rattle.cesu8_decode.proofs.by_offset.FirstWidths.{wide}
 use Rattle.cesu8_decode.proofs.by_offset.WindowOffsets.{is_boundary_at, Follows, width_in}
 use Rattle.cesu8_decode.proofs.by_offset.CharacterBoundaries.{width_bounds, boundary_ends, width_of_standing}
 
--- A chunk of text, in UTF-8, is read before the rest.
+-- The chunk is the UTF-8 of a text that is decoded from the bytes before the rest.
 abbrev pub IsChunk : Flavor → Strictness → List ℕ → List ℕ → List ℕ → Type 0
 IsChunk f which bytes rest chunk = IsReadSoFar f which bytes rest [] chunk
 
--- After some text no encoded character begins the bytes that are left.
+-- The bytes have a fault: after the encoding of some text come bytes that no encoded character
+-- begins.
 pub record HasFault (f : Flavor) (bytes : List ℕ) : Type 0 where
   pub rest : List ℕ
   pub chunk : List ℕ
@@ -34,7 +35,7 @@ pub record HasFault (f : Flavor) (bytes : List ℕ) : Type 0 where
   pub some : 0 < length rest
   pub none_begins : NoneBegins f rest
 
--- A character covers an offset.
+-- An encoded character covers the offset.
 pub record IsCovered (f : Flavor) (bytes : List ℕ) (i : ℕ) : Type 0 where
   pub offset : ℕ
   pub character : ℕ
@@ -44,12 +45,12 @@ pub record IsCovered (f : Flavor) (bytes : List ℕ) (i : ℕ) : Type 0 where
 
 -- ---- up to the first byte that is replaced
 
--- A text whose encoding begins bytes is a chunk of them.
+-- A text whose encoding begins the bytes is a chunk of them.
 pub chunk_of_text : (f : Flavor) (which : Strictness) (bytes text rest : List ℕ) → IsText text → bytes ≡ encoding f text ++ rest →
     IsChunk f which bytes rest (utf8 text)
 chunk_of_text f which bytes text rest is_text bytes_are = grind (arith, reading_text)
 
--- after a character a fault is one of the whole
+-- A fault after a character is a fault of the whole.
 fault_later : (f : Flavor) (c : ℕ) (bytes : List ℕ) → IsScalarValue c → HasFault f bytes → HasFault f (encoding f (c ∷ []) ++ bytes)
 fault_later f c bytes scalar fault =
     let text = c ∷ fault.before.text in
@@ -64,7 +65,7 @@ fault_later f c bytes scalar fault =
       none_begins = fault.none_begins;
     }
 
--- so bytes are the encoding of their pieces, or have a fault.
+-- Bytes are the encoding of the text of their pieces, or they have a fault.
 by_pieces : (f : Flavor) (pieces : List Piece) → ArePieces pieces → IsGreedy f pieces →
     IsStrictReading f (bytes_of f pieces) (text_of pieces) ⊎ HasFault f (bytes_of f pieces)
 by_pieces f [] are_pieces is_greedy = inl (tt, encoding_nil f)
@@ -79,7 +80,7 @@ by_pieces f (Replaced b ∷ pieces) are_pieces is_greedy =
       none_begins = is_greedy.0;
     })
 
--- Bytes are the encoding of their lossy reading, or have a fault.
+-- Bytes are the encoding of their lossy reading, or they have a fault.
 pub whole_or_faulty : (f : Flavor) (bytes : List ℕ) → IsStrictReading f bytes (reading f bytes) ⊎ HasFault f bytes
 whole_or_faulty f bytes =
     let cutting = greedy_cutting f bytes in
@@ -110,14 +111,14 @@ encoding_covered f (c ∷ text) i is_text inside =
     })
     (cases_lt i (width f c)))
 
--- No character crosses from an encoding into what follows it,
+-- No character crosses from an encoding into what follows it.
 pub none_crosses_encoding : (f : Flavor) (text rest : List ℕ) → IsText text → NoneCrosses f (encoding f text) rest
 none_crosses_encoding f [] rest is_text = λ i c stands inside. absurd (omega (arith, ap length (encoding_nil f)))
 none_crosses_encoding f (d ∷ text) rest is_text =
     subst (λ bs. NoneCrosses f bs rest) (sym (encoding_cons f d text))
     (none_crosses_character f d (encoding f text) rest is_text.0 (none_crosses_encoding f text rest is_text.1))
 
--- so the first byte of a rest that begins none is not covered
+-- If no character begins the bytes after an encoding, the first of these bytes is not covered.
 fault_not_covered : (f : Flavor) (text rest : List ℕ) → IsText text → NoneBegins f rest →
     IsCovered f (encoding f text ++ rest) (length (encoding f text)) → ⊥
 fault_not_covered f text rest is_text none_begins covered =
@@ -141,11 +142,12 @@ covered_read f bytes covered =
     absurd (fault_not_covered f fault.before.text fault.rest fault.before.scalars fault.none_begins there))
     (whole_or_faulty f bytes)
 
--- Those with an offset that is not covered have a fault.
+-- Bytes with an offset that is not covered have a fault.
 pub uncovered_fault : (f : Flavor) (bytes : List ℕ) (i : ℕ) → i < length bytes → (IsCovered f bytes i → ⊥) → HasFault f bytes
 uncovered_fault f bytes i inside uncovered = grind (arith, whole_or_faulty f bytes, encoding_covered)
 
--- What a character covers that ends in the front, it covers there.
+-- If no character crosses the end of a prefix, an offset in it that is covered is covered by a
+-- character of the prefix.
 pub covered_in_front : (f : Flavor) (front back : List ℕ) (i : ℕ) → NoneCrosses f front back → i < length front →
     IsCovered f (front ++ back) i → IsCovered f front i
 covered_in_front f front back i crosses inside covered =
@@ -163,18 +165,18 @@ covered_in_front f front back i crosses inside covered =
 
 -- ---- by widths
 
--- a byte that is not ill-formed is in reach of a character
+-- A byte that is not ill-formed is covered by a character that begins at one of six offsets.
 pub reached : (w0 w1 w2 w3 w4 w5 : ℕ) → ill_formed_by w0 w1 w2 w3 w4 w5 ≡ false →
     (1 ≤ w0) ⊎ ((2 ≤ w1) ⊎ ((3 ≤ w2) ⊎ ((w3 ≡ 6) ⊎ ((w4 ≡ 6) ⊎ (w5 ≡ 6)))))
 reached w0 w1 w2 w3 w4 w5 fine = grind (arith, nat_tests)
 
--- and an ill-formed one of none
+-- An ill-formed byte is covered by no character that begins at one of these offsets.
 pub not_reached : (f : Flavor) (window : List ℕ) (i : ℕ) → is_ill_formed_at f window i ≡ true → (s : ℕ) → s < 6 →
     width_at f window (i + s) + s < 6
 not_reached f window i ill_formed s small = grind (arith, nat_tests, width_bounds)
 
 module _ (f : Flavor) (window bytes : List ℕ) (follows : Follows window bytes 5) (first : is_boundary_at f window 0 ≡ true) where
-  -- A byte that is not ill-formed is covered,
+  -- A byte that is not ill-formed is covered.
   pub covered_where : (i : ℕ) → i < length bytes → is_ill_formed_at f window i ≡ false → IsCovered f bytes i
   covered_where i inside fine =
       let w = width_at f window in
@@ -202,7 +204,7 @@ module _ (f : Flavor) (window bytes : List ℕ) (follows : Follows window bytes 
           })
           (cases_lt (i + s) 5)
 
-  -- and an ill-formed one is not.
+  -- An ill-formed byte is not covered.
   pub not_covered_where : (i : ℕ) → i < length bytes → is_ill_formed_at f window i ≡ true → IsCovered f bytes i → ⊥
   not_covered_where i inside ill_formed covered =
       let p = covered.offset in

@@ -1,4 +1,4 @@
--- What bytes save, which is what the characters save that begin in them.
+-- How many bytes an input saves: the sum over the characters that begin in it.
 use Rattle.std.proofs.Common.{◌≡◌, ℕ, ◌+◌, ◌<◌, ◌≤◌, List, [], ◌∷◌, ◌++◌, refl, sym, ap, ◌∙◌, arith, length, zero-add, add-zero, subst, get_or, drop, suc, length-drop, get_or-drop}
 use Rattle.cesu8_text.specs.Text.{IsScalarValue}
 use Rattle.cesu8_text.specs.Encoding.{Flavor, encoding}
@@ -7,14 +7,14 @@ use Rattle.cesu8_decode.specs.DecodedOffsets.{first_width, saved, total_saved, s
 use Rattle.cesu8_decode.proofs.by_offset.FirstWidths.{encoded_widths, width_of_none}
 use Rattle.cesu8_decode.proofs.by_offset.WindowOffsets.{Follows, follows_later, width_following, saved_split}
 
--- No bytes save nothing.
+-- Empty input saves nothing.
 pub empty_saves : (f : Flavor) (bytes : List ℕ) → length bytes ≡ 0 → total_saved f bytes ≡ 0
 unfolding total_saved
 empty_saves f [] none = refl
 empty_saves f (b ∷ bytes) none = absurd (omega arith)
 
 module _ (f : Flavor) where
-  -- offsets where none begins save nothing
+  -- Offsets at which no character begins save nothing.
   free : (prefix rest : List ℕ) → ((j : ℕ) → j < length prefix → first_width f (drop j (prefix ++ rest)) ≡ 0) →
       total_saved f (prefix ++ rest) ≡ total_saved f rest
   unfolding total_saved
@@ -22,7 +22,7 @@ module _ (f : Flavor) where
   free (b ∷ prefix) rest none =
       rw (none 0 (omega arith)) (zero-add (total_saved f (prefix ++ rest)) ∙ free prefix rest (λ j small. none (suc j) (omega arith)))
 
-  -- A character saves what its first offset does,
+  -- A character saves what its first offset saves.
   pub first_saves : (c b : ℕ) (prefix rest : List ℕ) → IsScalarValue c → encoding f (c ∷ []) ≡ b ∷ prefix →
       total_saved f (encoding f (c ∷ []) ++ rest) ≡ saved (length (b ∷ prefix)) b + total_saved f rest
   unfolding total_saved
@@ -30,12 +30,12 @@ module _ (f : Flavor) where
       let widths = encoded_widths f c b prefix rest scalar same in
       rw (same, widths.0) (ap (λ n. saved (length (b ∷ prefix)) b + n) (free prefix rest (λ j small. widths.1 (suc j) (omega arith) (omega arith))))
 
-  -- and a byte that is replaced nothing.
+  -- A byte that is replaced saves nothing.
   pub replaced_saves : (b : ℕ) (rest : List ℕ) → NoneBegins f (b ∷ rest) → total_saved f (b ∷ rest) ≡ total_saved f rest
   unfolding total_saved
   replaced_saves b rest none_begins = rw (width_of_none f (b ∷ rest) none_begins) (zero-add (total_saved f rest))
 
-  -- What all bytes save is what their offsets save in a window,
+  -- What all bytes save is what their offsets in a window save.
   pub all_between : (window bytes : List ℕ) (i : ℕ) → Follows window bytes i →
       saved_between f window i (length bytes) ≡ total_saved f bytes
   unfolding saved_between total_saved
@@ -47,11 +47,11 @@ module _ (f : Flavor) where
       let rest = all_between window bytes (i + 1) (subst (Follows window bytes) offset (follows_later window (b ∷ bytes) i 1 follows)) in
       (λ k. saved (width k) (first k) + rest k)
 
-  -- and in themselves;
+  -- What all bytes save is what their own offsets save.
   pub all_offsets : (bytes : List ℕ) → saved_between f bytes 0 (length bytes) ≡ total_saved f bytes
   all_offsets bytes = all_between bytes bytes 0 (λ k. ap (λ p. get_or bytes p 0) (zero-add k))
 
-  -- it is what the first n save, and what is left.
+  -- What all bytes save is what the first n offsets save, and what the rest saves.
   pub saved_by_parts : (bytes : List ℕ) (n : ℕ) → n ≤ length bytes →
       saved_between f bytes 0 n + total_saved f (drop n bytes) ≡ total_saved f bytes
   saved_by_parts bytes n fits =

@@ -1,4 +1,4 @@
--- The length of the lossy reading, by what each offset saves of three bytes.
+-- The length of the lossy reading: three bytes for each byte, less what each offset saves.
 use Rattle.std.proofs.Common.{◌≡◌, ℕ, ◌+◌, ◌*◌, ◌^◌, ◌-◌, ◌<◌, ◌≤◌, ⊎_elim, List, [], ◌∷◌, ◌++◌, refl, ap, ◌∙◌, arith, length, length-append, Result, Ok, Err}
 use Rattle.std.specs.Option.{IfSome, IfNone}
 use Rattle.std.specs.Result.{OkIff, result_ok}
@@ -16,13 +16,13 @@ use Rattle.cesu8_decode.proofs.by_offset.SavedTotals.{first_saves, replaced_save
 use Rattle.cesu8_text.proofs.reading.Cuttings.{greedy_cutting}
 use Rattle.cesu8_text.proofs.reading.Greedy.{places}
 
--- what a character saves, and its UTF-8 and three times its bytes
+-- What a character saves and its UTF-8 together have three times the length of the character.
 record Saves (f : Flavor) (c : ℕ) (rest : List ℕ) : Type 0 where
   pub some : ℕ
   pub saves : total_saved f (encoding f (c ∷ []) ++ rest) ≡ some + total_saved f rest
   pub fits : length (utf8_of c) + some ≡ 3 * width f c
 
--- one whose UTF-8 has n bytes
+-- This is so for a character whose UTF-8 has n bytes, by its length.
 by_lengths : (f : Flavor) (c b n : ℕ) (prefix rest : List ℕ) → IsScalarValue c → encoding f (c ∷ []) ≡ b ∷ prefix →
     length (utf8_of c) ≡ n → n + saved (length (b ∷ prefix)) b ≡ 3 * length (b ∷ prefix) → Saves f c rest
 by_lengths f c b n prefix rest scalar same in_utf8 fits = record {
@@ -67,7 +67,7 @@ pieces_save f (Replaced b ∷ pieces) are_pieces is_greedy =
       length_utf8_replaced (text_of pieces),
     )
 
--- The lossy length is three times the bytes, less what all offsets save,
+-- The length of the lossy reading is three times that of the bytes, less what all offsets save.
 pub lossy_length_by_savings : (f : Flavor) (bytes : List ℕ) → lossy_length f bytes + total_saved f bytes ≡ 3 * length bytes
 unfolding lossy_length
 lossy_length_by_savings f bytes =
@@ -80,7 +80,7 @@ lossy_length_by_savings f bytes =
       ap (λ text. length (utf8 text)) (places f bytes cutting.pieces cutting.cuts cutting.greedy),
     )
 
--- and is given where it fits.
+-- The length is returned if it fits `usize`.
 pub length_given : {E : Type 0} (r : Result ℕ E) (n len : ℕ) → OkIff r (n < 2 ^ 64) n → n ≡ len →
     IfSome (result_ok r) (λ m. m ≡ len) × IfNone (result_ok r) (2 ^ 64 - 1 < len)
 length_given (Ok m) n len given same = (given.1 ∙ same, tt)

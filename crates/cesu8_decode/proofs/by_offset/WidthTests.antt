@@ -1,4 +1,4 @@
--- How wide the character is that begins bytes, by tests of the first six of them.
+-- The width of the character that begins some bytes, by tests of the first six bytes.
 use Rattle.std.proofs.lemmas.Bool.Decides.{nat_tests}
 use Rattle.std.proofs.Common.{◌≡◌, ℕ, ◌<◌, ◌≤◌, ◌⊎◌, ⊎_elim, Bool, cond, true, false, eqb, leb, ltb, List, [], ◌∷◌, ◌∙◌, arith, length, get_or}
 use Rattle.std.proofs.lemmas.Bool.{and_parts, and_from, eqb-true, leb-true, ltb-true, le-leb, lt-ltb, cases_lt, cases_Bool}
@@ -11,7 +11,7 @@ use Rattle.cesu8_text.proofs.encoding.Patterns.{Pattern, pattern}
 use Rattle.cesu8_text.proofs.encoding.Found.{BeginsInLengths, found_one, found_null, found_two, found_three, found_pair}
 use Rattle.cesu8_decode.proofs.by_offset.FirstWidths.{width_of_first, width_of_none}
 
--- bytes are as long as their last byte that is not 0
+-- Bytes with a byte that is not 0 are longer than its offset.
 pub long_by : (bytes : List ℕ) (i : ℕ) → 0 < get_or bytes i 0 → i < length bytes
 long_by bytes i some = ⊎_elim (λ h. h) (λ past. absurd (omega (arith, get_or_past bytes i 0 past))) (cases_lt i (length bytes))
 
@@ -24,7 +24,7 @@ is_continuation b low high = and_from (leb 0x80 b) (ltb b 0xC0) (le-leb 0x80 b l
 by_found : (f : Flavor) (bytes : List ℕ) (m n : ℕ) → BeginsInLengths f bytes m n → first_width f bytes ≡ m
 by_found f bytes m n found = width_of_first f bytes found.character found.rest found.begins ∙ found.encoded
 
--- ---- each test tells a character
+-- ---- each test identifies a character
 
 pub one_found : (f : Flavor) (bytes : List ℕ) → 0 < length bytes → one_at f (get_or bytes 0 0) ≡ true → first_width f bytes ≡ 1
 one_found f bytes some t = by_found f bytes 1 1 (found_one f bytes some (grind (arith, nat_tests)) (grind (arith, nat_tests)))
@@ -48,7 +48,7 @@ three_found f bytes t =
     let long = long_by bytes 2 (omega (arith, parts.3)) in
     by_found f bytes 3 3 (found_three f bytes (omega arith) parts.0 parts.1 parts.2 parts.3 parts.4 parts.5)
 
--- Bytes that pass the test of a pair begin with one.
+-- Bytes that pass the test of a surrogate pair begin with one.
 pub pair_of_test : (bytes : List ℕ) →
     pair_at (get_or bytes 0 0) (get_or bytes 1 0) (get_or bytes 2 0) (get_or bytes 3 0) (get_or bytes 4 0) (get_or bytes 5 0) ≡ true → HasPair bytes
 pair_of_test bytes t = grind (arith, and_parts, continuation, eqb-true, leb-true, ltb-true)
@@ -61,9 +61,9 @@ pair_found f bytes t =
     let long = long_by bytes 5 (omega (arith, pair.ends.3.0)) in
     by_found f bytes 6 4 (found_pair f bytes (omega arith) pair.lead pair.high.0 pair.high.1 pair.ends)
 
--- ---- where no test passes
+-- ---- no test passes
 
--- where all tests fail, none begins the bytes
+-- If all tests fail, no character begins the bytes.
 abbrev pub AllFail : Flavor → (a b d e g h : ℕ) → Type 0
 AllFail f a b d e g h =
     (one_at f a ≡ false) × (null_at f a b ≡ false) × (two_at a b ≡ false) × (three_at a b d ≡ false) × (pair_at a b d e g h ≡ false)
@@ -80,24 +80,24 @@ none_found f bytes fail = width_of_none f bytes (λ c rest begins. no_pattern f 
 
 -- ---- prefixes
 
--- Bytes without a pair fail its test.
+-- Bytes that do not begin with a surrogate pair fail its test.
 pub no_pair : (bytes : List ℕ) → ¬ (HasPair bytes) →
     pair_at (get_or bytes 0 0) (get_or bytes 1 0) (get_or bytes 2 0) (get_or bytes 3 0) (get_or bytes 4 0) (get_or bytes 5 0) ≡ false
 no_pair bytes none = grind (arith, cases_Bool, pair_of_test bytes)
 
--- the first test that passes
+-- A number is the width if it is what the first test that passes says.
 by_tests : (one null two three pair : Bool) (n : ℕ) → (one ≡ true → n ≡ 1) → (null ≡ true → n ≡ 2) → (two ≡ true → n ≡ 2) → (three ≡ true → n ≡ 3) → (pair ≡ true → n ≡ 6) →
     ((one ≡ false) × (null ≡ false) × (two ≡ false) × (three ≡ false) × (pair ≡ false) → n ≡ 0) →
     n ≡ cond one 1 (cond null 2 (cond two 2 (cond three 3 (cond pair 6 0))))
 by_tests one null two three pair n h1 h2 h3 h4 h5 none = grind arith
 
--- The width is told by six bytes.
+-- The width depends on six bytes alone.
 pub width_by_six : (f : Flavor) (bytes : List ℕ) → 0 < length bytes → first_width f bytes ≡ width_at f bytes 0
 unfolding first_width_by
 width_by_six f bytes some =
     by_tests _ _ _ _ _ (first_width f bytes) (one_found f bytes some) (null_found f bytes) (two_found f bytes) (three_found f bytes) (pair_found f bytes) (none_found f bytes)
 
--- What a width tells of the tests.
+-- What a width says about the tests.
 by_chain : (one null two three pair : Bool) → let w : ℕ = cond one 1 (cond null 2 (cond two 2 (cond three 3 (cond pair 6 0)))) in
     ((w ≤ 3) ⊎ (w ≡ 6)) × (eqb w 1 ≡ one) × (leb 1 w ≡ cond (leb w 1) one true) × (w ≡ 6 → pair ≡ true)
 by_chain one null two three pair = grind (arith, nat_tests)
@@ -107,12 +107,12 @@ pub width_tells : (f : Flavor) (a b d e g h : ℕ) → let w = first_width_by f 
 unfolding first_width_by
 width_tells f a b d e g h = by_chain (one_at f a) (null_at f a b) (two_at a b) (three_at a b d) (pair_at a b d e g h)
 
--- A pair in the prefix of bytes is one of theirs,
+-- A surrogate pair in the padded prefix is one in the bytes.
 module _ (bytes prefix : List ℕ) (same : IsPrefixOf bytes prefix) where
   pub pair_by_prefix : HasPair prefix → (6 ≤ length bytes) × HasPair bytes
   pair_by_prefix pair = grind (arith, long_by)
 
-  -- and has their digits.
+  -- The pair in the prefix and the pair in the bytes have the same digits.
   pub same_digits : second_third_fifth_sixth prefix ≡ second_third_fifth_sixth bytes
   same_digits i =
       same 1 (omega arith) i ∷ same 2 (omega arith) i ∷ same 4 (omega arith) i ∷ same 5 (omega arith) i ∷ []

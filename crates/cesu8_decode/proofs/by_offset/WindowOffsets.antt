@@ -1,4 +1,4 @@
--- What is told of the offsets of a window rests on its bytes there and a few more.
+-- What is known about the offsets of a window depends on its bytes there and a few more.
 use Rattle.std.proofs.Common.{◌≡◌, ℕ, zero, suc, ◌+◌, ◌<◌, ◌≤◌, List, ◌++◌, refl, sym, ap, ◌∙◌, arith, get_or, append_assoc, add-zero, zero-add, suc-add, length, drop, length-drop, get_or-drop, ◌∷◌}
 use lib.Lanes.{chunk}
 use Rattle.cesu8_text.specs.Encoding.{Flavor}
@@ -10,7 +10,7 @@ use Rattle.cesu8_decode.proofs.by_offset.WidthTests.{width_by_six}
 abbrev pub Agree : (a b : List ℕ) (i j n : ℕ) → Type 0
 Agree a b i j n = (k : ℕ) → k < n → get_or a (i + k) 0 ≡ get_or b (j + k) 0
 
--- So they have from later offsets on.
+-- The windows also agree from later offsets on.
 pub agree_later : (a b : List ℕ) (i j n s m : ℕ) → s + m ≤ n → Agree a b i j n → Agree a b (i + s) (j + s) m
 agree_later a b i j n s m fits agree k small =
     let here : i + s + k ≡ i + (s + k) = omega arith in
@@ -20,7 +20,7 @@ agree_later a b i j n s m fits agree k small =
 first_agrees : (a b : List ℕ) (i j n : ℕ) → 0 < n → Agree a b i j n → get_or a i 0 ≡ get_or b j 0
 first_agrees a b i j n some agree = ap (λ p. get_or a p 0) (sym (add-zero i)) ∙ agree 0 some ∙ ap (λ p. get_or b p 0) (add-zero j)
 
--- The width at an offset rests on six bytes,
+-- The width at an offset depends on six bytes.
 pub width_agrees : (f : Flavor) (a b : List ℕ) (i j : ℕ) → Agree a b i j 6 → width_at f a i ≡ width_at f b j
 width_agrees f a b i j agree =
     (λ k. first_width_by f (first_agrees a b i j 6 (omega arith) agree k) (agree 1 (omega arith) k) (agree 2 (omega arith) k)
@@ -32,21 +32,21 @@ width_later f a b i j n s fits agree = width_agrees f a b (i + s) (j + s) (agree
 width_first : (f : Flavor) (a b : List ℕ) (i j n : ℕ) → 6 ≤ n → Agree a b i j n → width_at f a i ≡ width_at f b j
 width_first f a b i j n fits agree = width_agrees f a b i j (λ k small. agree k (omega arith))
 
--- a boundary on ten,
+-- Whether an offset is a boundary depends on ten bytes.
 pub boundary_agrees : (f : Flavor) (a b : List ℕ) (i j : ℕ) → Agree a b i j 10 → is_boundary_at f a i ≡ is_boundary_at f b j
 boundary_agrees f a b i j agree =
     (λ k. boundary_by (width_later f a b i j 10 4 (omega arith) agree k) (width_later f a b i j 10 3 (omega arith) agree k)
     (width_later f a b i j 10 2 (omega arith) agree k) (width_later f a b i j 10 1 (omega arith) agree k)
     (width_first f a b i j 10 (omega arith) agree k))
 
--- and whether a byte is ill-formed on eleven,
+-- Whether a byte is ill-formed depends on eleven bytes.
 pub ill_formed_agrees : (f : Flavor) (a b : List ℕ) (i j : ℕ) → Agree a b i j 11 → is_ill_formed_at f a i ≡ is_ill_formed_at f b j
 ill_formed_agrees f a b i j agree =
     (λ k. ill_formed_by (width_later f a b i j 11 5 (omega arith) agree k) (width_later f a b i j 11 4 (omega arith) agree k)
     (width_later f a b i j 11 3 (omega arith) agree k) (width_later f a b i j 11 2 (omega arith) agree k)
     (width_later f a b i j 11 1 (omega arith) agree k) (width_first f a b i j 11 (omega arith) agree k))
 
--- and what a byte becomes
+-- What is written for a byte depends on eleven bytes.
 byte_decoded_alike : (f : Flavor) (a b : List ℕ) (i j : ℕ) → Agree a b i j 11 → decoded_at f a i ≡ decoded_at f b j
 byte_decoded_alike f a b i j agree =
     (λ k. decoded_byte (width_later f a b i j 11 5 (omega arith) agree k) (width_later f a b i j 11 4 (omega arith) agree k)
@@ -54,7 +54,7 @@ byte_decoded_alike f a b i j agree =
     (width_later f a b i j 11 1 (omega arith) agree k) (width_first f a b i j 11 (omega arith) agree k)
     (agree 3 (omega arith) k) (agree 4 (omega arith) k) (agree 5 (omega arith) k))
 
--- What n bytes become rests on ten more bytes.
+-- What is written for n bytes depends on ten bytes more.
 pub decoded_agrees : (f : Flavor) (a b : List ℕ) (i j n : ℕ) → Agree a b i j (n + 10) → decoded f a i n ≡ decoded f b j n
 unfolding decoded
 decoded_agrees f a b i j zero agree = refl
@@ -63,7 +63,7 @@ decoded_agrees f a b i j (suc n) agree =
     let rest = decoded_agrees f a b (i + 1) (j + 1) n (agree_later a b i j (suc n + 10) 1 (n + 10) (omega arith) agree) in
     (λ k. here k ++ rest k)
 
--- What more bytes become is what the first become, and then the others.
+-- What is written for m + n bytes is what is written for the first m, and then for the other n.
 pub decoded_split : (f : Flavor) (window : List ℕ) (i m n : ℕ) →
     decoded f window i (m + n) ≡ decoded f window i m ++ decoded f window (i + m) n
 unfolding decoded
@@ -72,7 +72,7 @@ decoded_split f window i (suc m) n =
     let offset : i + 1 + m ≡ i + suc m = omega arith in
     rw (suc-add m n, decoded_split f window (i + 1) m n, offset) (sym (append_assoc (decoded_at f window i) _ _))
 
--- More offsets save what the first save and the others.
+-- What m + n offsets save is what the first m save, and what the other n save.
 pub saved_split : (f : Flavor) (window : List ℕ) (i m n : ℕ) →
     saved_between f window i (m + n) ≡ saved_between f window i m + saved_between f window (i + m) n
 unfolding saved_between
@@ -81,7 +81,7 @@ saved_split f window i (suc m) n =
     let offset : i + 1 + m ≡ i + suc m = omega arith in
     rw (suc-add m n, saved_split f window (i + 1) m n, offset) (omega arith)
 
--- What n offsets save rests on five more bytes.
+-- What n offsets save depends on five bytes more.
 pub saved_agrees : (f : Flavor) (a b : List ℕ) (i j n : ℕ) → Agree a b i j (n + 5) → saved_between f a i n ≡ saved_between f b j n
 unfolding saved_between
 saved_agrees f a b i j zero agree = refl
@@ -91,36 +91,36 @@ saved_agrees f a b i j (suc n) agree =
     let rest = saved_agrees f a b (i + 1) (j + 1) n (agree_later a b i j (suc n + 5) 1 (n + 5) (omega arith) agree) in
     (λ k. saved (here k) (first k) + rest k)
 
--- From an offset on a window has the bytes, and zeros behind them.
+-- From offset i on, the window has the bytes, and then zeros.
 abbrev pub Follows : (window bytes : List ℕ) (i : ℕ) → Type 0
 Follows window bytes i = (k : ℕ) → get_or window (i + k) 0 ≡ get_or bytes k 0
 
--- So it has what follows n of them.
+-- From a later offset on, the window has the bytes without the first n.
 pub follows_later : (window bytes : List ℕ) (i n : ℕ) → Follows window bytes i → Follows window (drop n bytes) (n + i)
 follows_later window bytes i n follows k =
     let offset : n + i + k ≡ i + (n + k) = omega arith in
     ap (λ p. get_or window p 0) offset ∙ follows (n + k) ∙ sym (get_or-drop n bytes k 0)
 
--- The width at their first offset is that of the character that begins them.
+-- The width at the first offset of the bytes in the window is the width of the bytes.
 pub width_following : (f : Flavor) (window bytes : List ℕ) (i : ℕ) → Follows window bytes i → 0 < length bytes →
     width_at f window i ≡ first_width f bytes
 width_following f window bytes i follows some =
     width_agrees f window bytes i 0 (λ k small. follows k ∙ ap (λ p. get_or bytes p 0) (sym (zero-add k)))
     ∙ sym (width_by_six f bytes some)
 
--- So it is at each of their offsets.
+-- The width at offset n of the bytes in the window is the width of the bytes without the first n.
 pub width_in : (f : Flavor) (window bytes : List ℕ) (i n : ℕ) → Follows window bytes i → n < length bytes →
     width_at f window (n + i) ≡ first_width f (drop n bytes)
 width_in f window bytes i n follows inside =
     width_following f window (drop n bytes) (n + i) (follows_later window bytes i n follows) (omega (arith, length-drop n bytes))
 
--- Five zeros go before the bytes.
+-- The window of some bytes has them after five zeros.
 pub follows_zeros : (bytes : List ℕ) → Follows (0 ∷ 0 ∷ 0 ∷ 0 ∷ 0 ∷ bytes) bytes 5
 follows_zeros bytes k =
     let offset : 5 + k ≡ suc (suc (suc (suc (suc k)))) = omega arith in
     ap (λ p. get_or (0 ∷ 0 ∷ 0 ∷ 0 ∷ 0 ∷ bytes) p 0) offset
 
--- So what stands at an offset stands in their window five bytes further on,
+-- The bytes at an offset are in their window five bytes later.
 pub chunk_in_window : (bytes : List ℕ) (at n : ℕ) → chunk at n bytes ≡ chunk (at + 5) n (0 ∷ 0 ∷ 0 ∷ 0 ∷ 0 ∷ bytes)
 chunk_in_window bytes at n =
     let offset : suc (suc (suc (suc (suc at)))) ≡ at + 5 = omega arith in

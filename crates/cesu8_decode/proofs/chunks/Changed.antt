@@ -1,4 +1,5 @@
--- Characters that change: how they are read, and by a prefix of the bytes that they begin.
+-- Characters that need conversion: how they are decoded, and how a padded prefix of the bytes shows
+-- them.
 use Rattle.std.proofs.lemmas.Bool.Decides.{nat_tests}
 use Rattle.std.proofs.Common.{◌≡◌, ℕ, ◌↔◌, ◌≤◌, List, [], ◌∷◌, ◌++◌, sym, ap, ◌∙◌, ⊎_elim, true, arith, length, drop, get_or, append-nil}
 use Rattle.std.proofs.Math.Seq.{drop-append_seam}
@@ -16,7 +17,7 @@ use Rattle.cesu8_decode.proofs.by_offset.FirstWidths.{IsWide, ascii_forms, wide,
 use Rattle.cesu8_decode.proofs.by_offset.WidthTests.{null_found, pair_by_prefix, same_digits}
 use Rattle.cesu8_text.proofs.reading.Steps.{reading_character}
 
--- What a character of some width writes is read, if it is the UTF-8 of the character.
+-- If the UTF-8 of the character that begins the bytes is appended, that character is decoded.
 character_read : (f : Flavor) (which : Strictness) (bytes old new : List ℕ) (n : ℕ) → first_width f bytes ≡ n → (found : IsWide f bytes) →
     new ≡ old ++ utf8_of found.character → IsReadSoFar f which bytes (drop n bytes) old new
 character_read f which bytes old new n width_is found new_is =
@@ -32,13 +33,13 @@ character_read f which bytes old new n width_is found new_is =
       written = new_is ∙ ap (λ bs. old ++ bs) (sym (append-nil (utf8_of c)));
     }
 
--- The character's first byte begins the bytes.
+-- The first byte of the character is the first byte of the bytes.
 first_byte : (f : Flavor) (bytes prefix : List ℕ) (found : IsWide f bytes) → encoding f (found.character ∷ []) ≡ prefix →
     get_or bytes 0 0 ≡ get_or (prefix ++ found.rest) 0 0
 first_byte f bytes prefix found encoded =
     ap (λ bs. get_or bs 0 0) (found.begins.bytes_are ∙ ap (λ bs. bs ++ found.rest) encoded)
 
--- Two bytes from C0 on are null.
+-- A character of two bytes that begins with C0 is U+0000.
 null_utf8 : (f : Flavor) (bytes : List ℕ) (found : IsWide f bytes) → Shape found.character → first_width f bytes ≡ 2 →
     get_or bytes 0 0 ≡ 0xC0 → 0 ∷ [] ≡ utf8_of found.character
 null_utf8 f bytes found (one ascii) width_is lead =
@@ -51,11 +52,11 @@ null_utf8 f bytes found (three x y z digits) width_is lead =
 null_utf8 f bytes found (pair w x y z digits) width_is lead =
     absurd (omega (arith, width_is, found.wide, ap length (encoding_pair f found.character w x y z digits)))
 
--- C0 leads the null of MUTF-8.
+-- C0 is the first byte of C0 80.
 pub null_lead : (f : Flavor) (a b : ℕ) → null_at f a b ≡ true → a ≡ 0xC0
 null_lead f a b null = grind (arith, nat_tests)
 
--- So 00 is written for it.
+-- If 00 is appended for C0 80, this is decoded.
 null_read : (f : Flavor) (which : Strictness) (bytes old new : List ℕ) → null_at f (get_or bytes 0 0) (get_or bytes 1 0) ≡ true →
     new ≡ old ++ 0 ∷ [] → IsReadSoFar f which bytes (drop 2 bytes) old new
 null_read f which bytes old new null new_is =
@@ -65,7 +66,8 @@ null_read f which bytes old new null new_is =
     (new_is ∙ ap (λ bs. old ++ bs) (null_utf8 f bytes found (shape found.character found.begins.scalar) width_is
     (null_lead f (get_or bytes 0 0) (get_or bytes 1 0) null)))
 
--- Six bytes are a surrogate pair, and what is written for its digits is its UTF-8.
+-- A character of six bytes is a surrogate pair, and the four bytes computed from its digits are its
+-- UTF-8.
 pair_utf8 : (f : Flavor) (bytes four : List ℕ) (found : IsWide f bytes) → Shape found.character → first_width f bytes ≡ 6 →
     IsUtf8OfDigits (second_third_fifth_sixth bytes) four → four ≡ utf8_of found.character
 pair_utf8 f bytes four found (one ascii) width_is is_utf8 =
@@ -80,13 +82,13 @@ pair_utf8 f bytes four found (pair w x y z digits) width_is is_utf8 =
     (ap second_third_fifth_sixth
     (found.begins.bytes_are ∙ ap (λ bs. bs ++ found.rest) (encoding_pair f found.character w x y z digits)))
 
--- Bytes that look like one have that width.
+-- Bytes that begin with a surrogate pair have width 6.
 pub pair_width : (f : Flavor) (bytes : List ℕ) → 6 ≤ length bytes → HasPair bytes → first_width f bytes ≡ 6
 pair_width f bytes long has_pair =
     let found = found_pair f bytes long has_pair.lead has_pair.high.0 has_pair.high.1 has_pair.ends in
     width_of_first f bytes found.character found.rest found.begins ∙ found.encoded
 
--- So that is written for it.
+-- If these four bytes are appended for a surrogate pair, it is decoded.
 pub pair_read : (f : Flavor) (which : Strictness) (bytes old four new : List ℕ) → first_width f bytes ≡ 6 →
     IsUtf8OfDigits (second_third_fifth_sixth bytes) four → new ≡ old ++ four → IsReadSoFar f which bytes (drop 6 bytes) old new
 pair_read f which bytes old four new width_is is_utf8 new_is =
@@ -96,7 +98,8 @@ pair_read f which bytes old four new width_is is_utf8 new_is =
 
 -- ---- by a prefix
 
--- A character that changes is the null character if the bytes begin with C0, and else a surrogate pair.
+-- A character that needs conversion is C0 80 if the first byte is C0, and otherwise a surrogate
+-- pair.
 pub changed_null : (f : Flavor) (bytes : List ℕ) → BeginsChanged f bytes → get_or bytes 0 0 ≡ 0xC0 →
     null_at f (get_or bytes 0 0) (get_or bytes 1 0) ≡ true
 changed_null f bytes begins lead = grind arith
@@ -104,18 +107,19 @@ changed_null f bytes begins lead = grind arith
 pub changed_pair : (f : Flavor) (bytes : List ℕ) → BeginsChanged f bytes → ¬ (get_or bytes 0 0 ≡ 0xC0) → HasPair bytes
 changed_pair f bytes begins other = grind (arith, null_lead)
 
--- A pair is one in a prefix of the bytes too.
+-- A surrogate pair at the start of the bytes is one at the start of the padded prefix.
 pair_in_prefix : (bytes prefix : List ℕ) → IsPrefixOf bytes prefix → HasPair bytes → HasPair prefix
 pair_in_prefix bytes prefix same has = (pair_by_prefix prefix bytes (λ i small. sym (same i small)) has).1
 
--- So what changes begins bytes exactly if it begins the prefix.
+-- A character that needs conversion begins the bytes exactly if it begins the padded prefix.
 pub begins_in_prefix : (f : Flavor) (bytes prefix : List ℕ) → IsPrefixOf bytes prefix → BeginsChanged f bytes ↔ BeginsChanged f prefix
 begins_in_prefix f bytes prefix same = (
   λ begins. grind (arith, pair_in_prefix),
   λ begins. grind (arith, pair_by_prefix),
 )
 
--- The UTF-8 of the character that was seen in the prefix is read.
+-- If the UTF-8 of the character that begins the padded prefix is appended, that character is
+-- decoded.
 module _ (f : Flavor) (bytes prefix : List ℕ) (same : IsPrefixOf bytes prefix) (which : Strictness) (old new : List ℕ) where
   pub seen_pair_read : HasPair prefix → (utf8 : List ℕ) → IsUtf8OfDigits (second_third_fifth_sixth prefix) utf8 → new ≡ old ++ utf8 →
       IsReadSoFar f which bytes (drop 6 bytes) old new

@@ -1,4 +1,5 @@
--- What a window of bytes becomes is a chunk of their text, or an ill-formed byte in it is their fault.
+-- What is written for a window of bytes is a chunk of their text, or an ill-formed byte in the
+-- window is a fault of the bytes.
 use Rattle.std.proofs.Common.{◌≡◌, ℕ, ◌+◌, ◌<◌, ◌≤◌, true, false, List, [], ◌∷◌, ◌++◌, sym, ap, ◌∙◌, subst, inr, arith, length, take, drop}
 use Rattle.std.specs.Prelude.{slice_index}
 use Rattle.std.proofs.lemmas.Bool.Decides.{nat_tests}
@@ -32,12 +33,12 @@ reading_is_text f bytes =
     let cutting = greedy_cutting f bytes in
     subst IsText (places f bytes cutting.pieces cutting.cuts cutting.greedy) (scalar_pieces cutting.pieces cutting.cuts.0)
 
--- Before an offset that no character crosses, the lossy reading is a chunk in lossy reading,
+-- The lossy reading of the bytes before a boundary is a chunk, in lossy decoding.
 first_chunk : (f : Flavor) (bytes : List ℕ) (n : ℕ) → NoneCrosses f (take n bytes) (drop n bytes) →
     IsChunk f Lossy bytes (drop n bytes) (utf8 (reading f (take n bytes)))
 first_chunk f bytes n crosses = grind (arith, nat_tests, reading_is_text, split, take-append-drop {A = ℕ})
 
--- and in both where it is the strict reading.
+-- It is also a chunk in strict decoding, if it is the strict reading of these bytes.
 strict_first_chunk : (f : Flavor) (which : Strictness) (bytes : List ℕ) (n : ℕ) → IsStrictReading f (take n bytes) (reading f (take n bytes)) →
     IsChunk f which bytes (drop n bytes) (utf8 (reading f (take n bytes)))
 strict_first_chunk f which bytes n reads =
@@ -46,17 +47,17 @@ strict_first_chunk f which bytes n reads =
 
 -- ---- chunks by windows
 
--- A window on the first n bytes and five more, which decide what begins before n.
+-- A window of the first n bytes and five more, which decide all characters that begin before n.
 abbrev pub IsPaddedFor : ℕ → List ℕ → List ℕ → Type 0
 IsPaddedFor n bytes window =
     (k : ℕ) → k < n + 10 → slice_index window k ≡ slice_index (0 ∷ 0 ∷ 0 ∷ 0 ∷ 0 ∷ bytes) k
 
--- A window on all bytes is one.
+-- A window of all bytes is such a window.
 pub padded_for : (bytes window : List ℕ) (n : ℕ) → IsPadded bytes window → IsPaddedFor n bytes window
 padded_for bytes window n padded k small = padded k
 
 module _ (f : Flavor) (bytes window : List ℕ) (n : ℕ) (padded : IsPaddedFor n bytes window) where
-  -- the window on all bytes
+  -- The window of all bytes.
   abbrev all : List ℕ
   all = 0 ∷ 0 ∷ 0 ∷ 0 ∷ 0 ∷ bytes
 
@@ -64,7 +65,7 @@ module _ (f : Flavor) (bytes window : List ℕ) (n : ℕ) (padded : IsPaddedFor 
   agrees i m fits k small = padded (i + k) (omega arith)
 
   module _ (fits : n ≤ length bytes) where
-    -- An ill-formed byte is a fault.
+    -- An ill-formed byte is a fault of the bytes.
     pub fault_at : (i : ℕ) → i < n → is_ill_formed_at f window i ≡ true → HasFault f bytes
     fault_at i inside ill_formed =
         uncovered_fault f bytes i (omega arith)
@@ -75,17 +76,17 @@ module _ (f : Flavor) (bytes window : List ℕ) (n : ℕ) (padded : IsPaddedFor 
       all_boundary : is_boundary_at f all n ≡ true
       all_boundary = sym (boundary_agrees f window all n n (agrees n 10 (omega arith))) ∙ boundary
 
-      -- No character crosses the boundary behind them.
+      -- No character crosses the end of the window.
       none_crosses_window : NoneCrosses f (take n bytes) (drop n bytes)
       none_crosses_window = none_crosses_boundary f all bytes n (follows_zeros bytes) fits all_boundary
 
-      -- They become the UTF-8 of their lossy reading.
+      -- What is written for the window is the UTF-8 of the lossy reading of its bytes.
       decoded_window : decoded f window 0 n ≡ utf8 (reading f (take n bytes))
       decoded_window =
           decoded_agrees f window all 0 0 n (agrees 0 (n + 10) (omega arith))
           ∙ decoded_between f all bytes n (follows_zeros bytes) fits (boundary_of_zeros f bytes) all_boundary
 
-      -- Where none of them is ill-formed, that is their strict reading.
+      -- If none of its bytes is ill-formed, this is their strict reading.
       strict_window : ((i : ℕ) → i < n → is_ill_formed_at f window i ≡ false) → IsStrictReading f (take n bytes) (reading f (take n bytes))
       strict_window fine =
           let long = length-take-le n bytes fits in
@@ -95,11 +96,11 @@ module _ (f : Flavor) (bytes window : List ℕ) (n : ℕ) (padded : IsPaddedFor 
           (covered_where f all bytes (follows_zeros bytes) (boundary_of_zeros f bytes) i (omega arith)
           (sym (ill_formed_agrees f window all i i (agrees i 11 (omega arith))) ∙ fine i (omega arith)))))
 
-      -- So what they become is a chunk,
+      -- What is written for the window is a chunk in lossy decoding.
       pub lossy_chunk : IsChunk f Lossy bytes (drop n bytes) (decoded f window 0 n)
       lossy_chunk = subst (IsChunk f Lossy bytes (drop n bytes)) (sym decoded_window) (first_chunk f bytes n none_crosses_window)
 
-      -- and in strict reading too where none is ill-formed.
+      -- It is also a chunk in strict decoding, if no byte of the window is ill-formed.
       pub strict_chunk : (which : Strictness) → ((i : ℕ) → i < n → is_ill_formed_at f window i ≡ false) → IsChunk f which bytes (drop n bytes) (decoded f window 0 n)
       strict_chunk which fine =
           subst (IsChunk f which bytes (drop n bytes)) (sym decoded_window) (strict_first_chunk f which bytes n (strict_window fine))

@@ -1,4 +1,4 @@
--- What a surrogate pair becomes at a boundary.
+-- What is written for a surrogate pair at a boundary.
 use Rattle.std.proofs.Common.{◌≡◌, ℕ, ◌+◌, ◌-◌, ◌<◌, ◌≤◌, true, false, List, [], ◌++◌, ⊎_elim, refl, sym, ap, ◌∙◌, arith, length, drop, length-drop}
 use Rattle.std.proofs.lemmas.Bool.{cases_Bool}
 use Rattle.std.proofs.lemmas.List.{drop-drop, append_cancel_right}
@@ -19,11 +19,11 @@ module _ (f : Flavor) (bytes : List ℕ) (at : ℕ) (has : HasPair (drop at byte
   abbrev w : ℕ → ℕ
   w = width_at f (window_of bytes)
 
-  -- It has six bytes,
+  -- The pair has six bytes.
   six : w (at + 5) ≡ 6
   six = width_in f (window_of bytes) bytes 5 at (follows_zeros bytes) (omega (arith, length-drop at bytes, long)) ∙ pair_width f (drop at bytes) long has
 
-  -- and nothing begins in it.
+  -- No character begins inside the pair.
   pub none_inside : (s : ℕ) → s < 5 → w (at + 6 + s) ≡ 0
   none_inside s small =
       let there : at + 1 + s + 5 ≡ at + 6 + s = omega arith in
@@ -32,7 +32,7 @@ module _ (f : Flavor) (bytes : List ℕ) (at : ℕ) (has : HasPair (drop at byte
       let ends = ends_before f (window_of bytes) bytes at (at + 1 + s) (follows_zeros bytes) (omega arith) (omega (arith, length-drop at bytes, long)) in
       grind arith
 
-  -- So none of its bytes is ill-formed.
+  -- None of its bytes is ill-formed.
   pub pair_fine : (i : ℕ) → at ≤ i → i < at + 6 → is_ill_formed_at f (window_of bytes) i ≡ false
   pair_fine i low inside =
       let there : i + (at + 5 - i) ≡ at + 5 = omega arith in
@@ -44,7 +44,7 @@ module _ (f : Flavor) (bytes : List ℕ) (at : ℕ) (has : HasPair (drop at byte
   pub boundary_after_pair : is_boundary_at f (window_of bytes) (at + 6) ≡ true
   boundary_after_pair = boundary_where f (window_of bytes) (at + 6) (λ s small. omega (arith, none_inside s small))
 
-  -- At a boundary they become its UTF-8.
+  -- At a boundary, what is written for the pair is its UTF-8.
   pub pair_at_boundary : is_boundary_at f (window_of bytes) at ≡ true → (four : List ℕ) → IsUtf8OfDigits (second_third_fifth_sixth (drop at bytes)) four →
       decoded f (window_of bytes) at 6 ≡ four
   pair_at_boundary here four is_utf8 =

@@ -1,4 +1,4 @@
--- What characters become at a boundary that are the same in UTF-8: they stay as they are.
+-- What is written for unchanged characters at a boundary: the same bytes.
 use Rattle.std.proofs.Common.{◌≡◌, ℕ, ◌+◌, ◌-◌, ◌<◌, ◌≤◌, true, false, List, [], ◌∷◌, ◌++◌, ⊎_elim, refl, sym, ap, ◌∙◌, subst, arith, append_assoc, length, take, drop, length-append, length-drop, take-append-drop}
 use Rattle.std.proofs.Math.Seq.{drop-append_seam}
 use Rattle.std.proofs.lemmas.Bool.{cases_Bool, cases_lt}
@@ -17,7 +17,8 @@ use Rattle.cesu8_decode.proofs.by_offset.IllFormed.{IsCovered, chunk_of_text, en
 use Rattle.cesu8_decode.proofs.by_offset.CharacterBoundaries.{boundary_of_zeros}
 use Rattle.cesu8_decode.proofs.by_offset.WindowOffsets.{is_boundary_at, follows_zeros, follows_later, width_in, decoded_split}
 
--- A character that stands in an encoding stands there in bytes that begin with it.
+-- A character that begins in an encoding also begins there in longer bytes that start with this
+-- encoding.
 stands_in_more : (f : Flavor) (front more : List ℕ) (p c : ℕ) → p ≤ length front → StandsAt f front p c → StandsAt f (front ++ more) p c
 stands_in_more f front more p c inside stands = (
   stands.0 ++ more,
@@ -38,7 +39,7 @@ module _ (f : Flavor) (bytes : List ℕ) (at : ℕ) (within : at ≤ length byte
   long : at + n + length more ≡ length bytes
   long = omega (arith, within, length-drop at bytes, ap length rest_is, length-append (encoding f text) more)
 
-  -- Each of their bytes is in a character, so none is ill-formed.
+  -- Each byte of unchanged characters is in a character, so none is ill-formed.
   pub text_fine : (i : ℕ) → at ≤ i → i < at + n → is_ill_formed_at f (window_of bytes) i ≡ false
   text_fine i low inside =
       ⊎_elim (λ (ill_formed : is_ill_formed_at f (window_of bytes) i ≡ true).
@@ -68,7 +69,7 @@ module _ (f : Flavor) (bytes : List ℕ) (at : ℕ) (within : at ≤ length byte
         ends = omega (arith, covered.ends, low);
       }
 
-  -- No character crosses their end.
+  -- No character crosses the end of these characters.
   pub boundary_after_text : is_boundary_at f (window_of bytes) (at + n) ≡ true
   boundary_after_text = boundary_where f (window_of bytes) (at + n) ends
     where
@@ -100,7 +101,7 @@ module _ (f : Flavor) (bytes : List ℕ) (at : ℕ) (within : at ≤ length byte
           (from_here s small)
           (cases_lt (n + s) 5)
 
-  -- They become the UTF-8 of their text.
+  -- What is written for these characters is the UTF-8 of their text.
   pub text_decoded : decoded f (window_of bytes) at n ≡ utf8 text
   text_decoded =
       let window = window_of bytes in

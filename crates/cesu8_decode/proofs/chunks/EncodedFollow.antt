@@ -1,4 +1,4 @@
--- The bytes of whole characters may follow each other.
+-- The bytes of whole characters can follow each other.
 use Rattle.std.proofs.Common.{◌≡◌, ℕ, ◌+◌, ◌<◌, ◌≤◌, ◌⊎◌, inl, inr, true, false, List, [], ◌∷◌, ◌++◌, refl, subst, arith, length, take}
 use Rattle.std.specs.List.{Any}
 use Rattle.std.proofs.lemmas.Bool.{lt-leb, le-leb, le-ltb, cases_Bool}
@@ -18,43 +18,44 @@ use Rattle.cesu8_decode.specs.Front.{AreWhole, IsOutside}
 use Rattle.cesu8_decode.proofs.by_offset.WidthTests.{is_continuation}
 use Rattle.cesu8_decode.proofs.chunks.FollowingBytes.{Ends, FollowToEnd, FollowBefore, by_index, start, short_of, low_if_meant}
 
--- ---- what a byte shows
+-- ---- the class of a byte
 
--- A byte above 0 is no null, and one of C0 or more continues no character.
+-- A byte greater than 0 is no null, and a byte from C0 on is no continuation byte.
 no_null : (f : Flavor) (b : ℕ) → 0 < b → is_null f b ≡ false
 no_null f b some = grind (arith, nat_tests)
 
 no_continuation : (b : ℕ) → 0xC0 ≤ b → continues b ≡ false
 no_continuation b high = rw (le-leb 0x80 b (omega arith), le-ltb b 0xC0 high) refl
 
--- One that begins a character behind another,
+-- The class of a first byte after the end of a character is 0.
 shows_begin : (s : CharacterSet) (f : Flavor) (a b : ℕ) → a < 0xC0 → is_null f b ≡ false → continues b ≡ false → shown s f a b ≡ 0
 unfolding shown
 shows_begin s f a b behind null other = rw (null, lt-leb 0xF0 a (omega arith), other, lt-leb 0xC0 a behind) refl
 
--- the second byte of a character,
+-- The class of the second byte of a character is 0.
 shows_second : (s : CharacterSet) (f : Flavor) (a b : ℕ) → 0xC2 ≤ a → a < 0xF0 → 0x80 ≤ b → b < 0xC0 → (a ≡ 0xE0 → 0xA0 ≤ b) → (a ≡ 0xED → b < first_low s) →
     shown s f a b ≡ 0
 unfolding shown
 shows_second s f a b leads fits low high no_overlong no_low = grind (arith, nat_tests)
 
--- the third,
+-- The class of the third byte of a character is 80.
 shows_third : (s : CharacterSet) (f : Flavor) (a b : ℕ) → 0x80 ≤ a → a < 0xC0 → 0x80 ≤ b → b < 0xC0 → shown s f a b ≡ 0x80
 unfolding shown
 shows_third s f a b a_low a_high low high = grind (arith, nat_tests)
 
--- and the second of a low surrogate.
+-- The class of the second byte of a low surrogate is 20.
 shows_low : (s : CharacterSet) (f : Flavor) (b : ℕ) → first_low s ≤ b → 0xB0 ≤ b → b < 0xC0 → shown s f 0xED b ≡ 0x20
 unfolding shown
 shows_low s f b is_low low high = rw (no_null f b (omega arith), is_continuation b (omega arith) high, le-leb (first_low s) b is_low) refl
 
 -- ---- one character after another
 
--- A second byte below A0 is of no surrogate.
+-- A second byte below A0 is not that of a surrogate.
 below_low : (s : CharacterSet) (b : ℕ) → b < 0xA0 → b < first_low s
 below_low s b low = grind arith
 
--- The bytes of a character and more follow in turn, if these do behind it.
+-- The bytes of a character and of the rest can follow each other, if those of the rest can after
+-- any whole character.
 module _ (s : CharacterSet) (f : Flavor) (rest : List ℕ) (then : (a b d e : ℕ) → Ends s a b d e → FollowToEnd s f a b d e rest) (a b d e : ℕ) (ends : Ends s a b d e) where
   fit_one : (g : ℕ) → g < 0x80 → is_null f g ≡ false → FollowToEnd s f a b d e (g ∷ rest)
   fit_one g ascii null = (grind (arith, nat_tests, shows_begin), then b d e g (grind (arith, nat_tests)))
@@ -78,12 +79,12 @@ module _ (s : CharacterSet) (f : Flavor) (rest : List ℕ) (then : (a b d e : �
       let after = then i 0xED l m (grind (arith, nat_tests)) in
       grind (arith, nat_tests, no_null, shows_begin, shows_second, shows_third, shows_low)
 
--- A null of MUTF-8 has a form of two bytes.
+-- U+0000 in MUTF-8 has a form of two bytes.
 null_form : (f : Flavor) (c : ℕ) → is_null f c ≡ true →
     (short_form f c ≡ 0xC0 ∷ 0x80 ∷ []) × (null_at f 0xC0 0x80 ≡ true) × IsEncodedOtherwise f c
 null_form f c null = grind (arith, nat_tests)
 
--- So they do by its number,
+-- The bytes of one character of the set and of the rest can follow each other, for each form.
 module _ (s : CharacterSet) (f : Flavor) (c : ℕ) (meant : IsEncodedOtherwise f c → has_changed s ≡ true) (rest : List ℕ) (then : (a b d e : ℕ) → Ends s a b d e → FollowToEnd s f a b d e rest) (a b d e : ℕ) (ends : Ends s a b d e) where
   fit_short : c < 0x80 → (is_null f c ≡ true) ⊎ (is_null f c ≡ false) → FollowToEnd s f a b d e (short_form f c ++ rest)
   unfolding shown
@@ -109,14 +110,14 @@ module _ (s : CharacterSet) (f : Flavor) (c : ℕ) (meant : IsEncodedOtherwise f
       (fit_pair s f rest then a b d e ends (0xA0 + w) (0x80 + x) (0xB0 + y) (0x80 + z) (meant (otherwise f c (omega arith))) (omega arith) (omega arith) (omega arith) (omega arith)
       (omega arith) (omega arith) (omega arith) (omega arith))
 
--- by the set,
+-- The bytes of the encoding of a character of the set and of the rest can follow each other.
 character_fits : (s : CharacterSet) (f : Flavor) (c : ℕ) → IsScalarValue c → ¬ (IsOutside s f c) → (rest : List ℕ) →
     ((a b d e : ℕ) → Ends s a b d e → FollowToEnd s f a b d e rest) → (a b d e : ℕ) → Ends s a b d e → FollowToEnd s f a b d e (encoding f (c ∷ []) ++ rest)
 character_fits Encoded f c scalar inside rest then a b d e ends = fit_character Encoded f c (λ _. refl) rest then a b d e ends scalar (shape c scalar)
 character_fits Unchanged f c scalar inside rest then a b d e ends =
     fit_character Unchanged f c (λ needs. absurd (inside needs)) rest then a b d e ends scalar (shape c scalar)
 
--- and so do those of a text.
+-- The bytes of the encoding of a text in the set can follow each other.
 written_fit : (s : CharacterSet) (f : Flavor) (text : List ℕ) → IsText text → ¬ (Any (IsOutside s f) text) →
     (a b d e : ℕ) → Ends s a b d e → FollowToEnd s f a b d e (encoding f text)
 written_fit s f [] is_text inside a b d e ends = rw (encoding_nil f) ends
@@ -125,7 +126,8 @@ written_fit s f (c ∷ text) is_text inside a b d e ends =
     (character_fits s f c is_text.0 (λ out. inside (any_here _ c text out)) (encoding f text)
     (written_fit s f text is_text.1 (λ any. inside (any_there _ c text any))) a b d e ends)
 
--- The bytes of whole characters at the front may follow each other, and none crosses their end.
+-- The bytes of a prefix of whole characters can follow each other, and no character crosses its
+-- end.
 pub whole_follow : (s : CharacterSet) (f : Flavor) (bytes : List ℕ) (m : ℕ) → m ≤ length bytes → AreWhole s f (take m bytes) →
     FollowBefore s f (after_fillers bytes) m
 whole_follow s f bytes m within whole =

@@ -1,5 +1,5 @@
--- The front of whole characters ends at the first byte that is ill-formed, or that begins a character
--- that changes.
+-- The prefix of whole characters ends at the first event: a byte that is ill-formed, or at which a
+-- character that needs conversion begins.
 use Rattle.std.proofs.Common.{◌≡◌, ℕ, ◌+◌, ◌-◌, ◌<◌, ◌≤◌, ◌⊎◌, inl, inr, ⊎_elim, true, false, true≢false, ◌||◌, eqb, List, [], ◌∷◌, ◌++◌, refl, sym, ap, ◌∙◌, subst, arith, append_assoc, length, take, drop, get_or, get_or-drop, add-zero, length-append, length-drop, take-append-drop}
 use Rattle.std.proofs.Math.Seq.{take-add}
 use Rattle.std.proofs.lemmas.Bool.{cases_lt}
@@ -38,7 +38,7 @@ use Rattle.cesu8_decode.proofs.decoder.EventsDecoded.{width_there}
 -- ---- a prefix of whole characters
 
 module _ (s : CharacterSet) (f : Flavor) (bytes : List ℕ) (n : ℕ) (whole : AreWhole s f (take n bytes)) where
-  -- What k bytes more are read as begins with a character that begins after the prefix.
+  -- The text of k more bytes begins with a character of the set that begins after the prefix.
   begins_after : (k : ℕ) (text : List ℕ) → 0 < k → k ≤ length (drop n bytes) → IsText text → encoding f text ≡ take k (drop n bytes) →
       ¬ (Any (IsOutside s f) text) → (c : ℕ) × (rest : List ℕ) × (¬ (IsOutside s f c)) × BeginsWith f (drop n bytes) c rest
   begins_after k [] some fits is_text reads inside =
@@ -55,7 +55,7 @@ module _ (s : CharacterSet) (f : Flavor) (bytes : List ℕ) (n : ℕ) (whole : A
         },
       )
 
-  -- If no character of the set begins there, no longer prefix is whole.
+  -- If no character of the set begins after the prefix, no longer prefix is whole.
   pub greatest_prefix : ((c : ℕ) (rest : List ℕ) → ¬ (IsOutside s f c) → ¬ (BeginsWith f (drop n bytes) c rest)) →
       (m : ℕ) → n < m → m ≤ length bytes → ¬ (AreWhole s f (take m bytes))
   greatest_prefix none m past within other =
@@ -79,7 +79,8 @@ module _ (f : Flavor) (bytes : List ℕ) (n : ℕ) (fits : n ≤ length bytes) w
   covered_at : (i : ℕ) → i < length bytes → is_ill_formed_at f (window_of bytes) i ≡ false → IsCovered f bytes i
   covered_at = covered_where f (window_of bytes) bytes (follows_zeros bytes) (boundary_of_zeros f bytes)
 
-  -- If no byte before it is ill-formed, all are the encoding of their lossy reading.
+  -- If no byte before the offset is ill-formed, the bytes before it are the encoding of their lossy
+  -- reading.
   pub read_before : NoneCrosses f (take n bytes) (drop n bytes) → ((i : ℕ) → i < n → is_ill_formed_at f (window_of bytes) i ≡ false) →
       IsStrictReading f (take n bytes) (reading f (take n bytes))
   read_before none_crosses fine =
@@ -87,11 +88,11 @@ module _ (f : Flavor) (bytes : List ℕ) (n : ℕ) (fits : n ≤ length bytes) w
       covered_read f (take n bytes) (λ i inside. covered_in_front f (take n bytes) (drop n bytes) i none_crosses inside
       (subst (λ bs. IsCovered f bs i) (sym (take-append-drop n bytes)) (covered_at i (omega arith) (fine i (omega arith)))))
 
-  -- No character covers an ill-formed byte,
+  -- No character covers an ill-formed byte.
   pub none_covers : n < length bytes → is_ill_formed_at f (window_of bytes) n ≡ true → IsCovered f bytes n → ⊥
   none_covers = not_covered_where f (window_of bytes) bytes (follows_zeros bytes) (boundary_of_zeros f bytes) n
 
-  -- so none begins there,
+  -- No character begins at an ill-formed byte.
   pub none_at : n < length bytes → is_ill_formed_at f (window_of bytes) n ≡ true → NoneBegins f (drop n bytes)
   none_at inside ill_formed c rest begins =
       none_covers inside ill_formed (record {
@@ -102,7 +103,7 @@ module _ (f : Flavor) (bytes : List ℕ) (n : ℕ) (fits : n ≤ length bytes) w
         ends = omega (arith, (length_of_character f c begins.scalar).some, (length_of_character f c begins.scalar).fits);
       })
 
-  -- and none crosses it.
+  -- No character crosses the offset of an ill-formed byte.
   pub none_crosses_at : n < length bytes → is_ill_formed_at f (window_of bytes) n ≡ true → NoneCrosses f (take n bytes) (drop n bytes)
   none_crosses_at inside ill_formed i c stands before =
       let long = length-take-le n bytes fits in
@@ -114,14 +115,14 @@ module _ (f : Flavor) (bytes : List ℕ) (n : ℕ) (fits : n ≤ length bytes) w
         ends = past;
       }))) (λ (ends : i + width f c ≤ n). omega arith) (cases_lt n (i + width f c))
 
-  -- None crosses the end of all bytes,
+  -- No character crosses the end of all bytes.
   pub none_crosses_end : n ≡ length bytes → NoneCrosses f (take n bytes) (drop n bytes)
   none_crosses_end all i c stands before =
       let long = length-take-le n bytes fits in
       let there : StandsAt f bytes i c = subst (λ bs. StandsAt f bs i c) (take-append-drop n bytes) stands in
       omega (arith, ap length there.1.bytes_are, length-drop i bytes, length-append (encoding f (c ∷ [])) there.0)
 
-  -- or an offset where a character begins.
+  -- No character crosses an offset at which a character begins.
   pub none_crosses_first : n < length bytes → 0 < width_at f bytes n → NoneCrosses f (take n bytes) (drop n bytes)
   none_crosses_first inside some i c stands before =
       let long = length-take-le n bytes fits in
@@ -130,14 +131,14 @@ module _ (f : Flavor) (bytes : List ℕ) (n : ℕ) (fits : n ≤ length bytes) w
       let wide = width_of_standing f w bytes i c (follows_zeros bytes) (omega arith) there in
       omega (arith, wide, long, ends_before f w bytes i n (follows_zeros bytes) (omega arith) inside (omega (arith, some, width_there f bytes n)))
 
--- ---- characters that change
+-- ---- characters that need conversion
 
--- Two bytes for U+0000 are its form in MUTF-8.
+-- If the encoding of U+0000 is C0 80, the encoding is MUTF-8.
 long_null : (f : Flavor) (c : ℕ) → c ≡ 0 → encoding f (c ∷ []) ≡ 0xC0 ∷ 0x80 ∷ [] → is_null f c ≡ true
 long_null Cesu8 c null encoded = absurd (omega (arith, ap length (sym encoded ∙ encoding_one Cesu8 c (omega (arith, null)))))
 long_null Mutf8 c null encoded = grind (arith, null, nat_tests)
 
--- From 10000 (hexadecimal) on a character is encoded as a pair.
+-- A character from 10000 (hexadecimal) on is encoded as a surrogate pair.
 high_otherwise : (f : Flavor) (c : ℕ) → 0x10000 ≤ c → IsEncodedOtherwise f c
 high_otherwise Cesu8 c high = high
 high_otherwise Mutf8 c high = inr high
@@ -155,7 +156,7 @@ module _ (f : Flavor) (bytes : List ℕ) (i c : ℕ) (rest : List ℕ) (begins :
       let inside : i < length bytes = omega (arith, long.some, long.fits, ap length begins.bytes_are, length-drop i bytes, length-append (encoding f (c ∷ [])) rest) in
       sym (width_there f bytes i) ∙ width_of_standing f (window_of bytes) bytes i c (follows_zeros bytes) inside (rest, begins)
 
-  -- One that is encoded otherwise is marked,
+  -- A character whose encoding is not its UTF-8 is marked.
   pub otherwise_marked : IsEncodedOtherwise f c → is_changed_at f bytes i ≡ true
   otherwise_marked needs =
       by_form (subst (BeginsChanged f) (sym begins.bytes_are) (otherwise_begins f c rest (shape c begins.scalar) needs))
@@ -171,7 +172,7 @@ module _ (f : Flavor) (bytes : List ℕ) (i c : ℕ) (rest : List ℕ) (begins :
           let here : is_null_at f bytes i ≡ true = (λ k. null_at f (sym first k) (sym second k)) ∙ null in
           grind (arith, here, nat_tests)
 
-  -- and one that is marked is encoded otherwise.
+  -- A character that is marked has an encoding that is not its UTF-8.
   pub marked_otherwise : is_changed_at f bytes i ≡ true → IsEncodedOtherwise f c
   marked_otherwise is_changed = by_shape (shape c begins.scalar)
     where
@@ -197,12 +198,13 @@ module _ (f : Flavor) (bytes : List ℕ) (i c : ℕ) (rest : List ℕ) (begins :
           (λ null. omega (arith, lead _ encoded, null_lead f (get_or bytes i 0) (get_or bytes (i + 1) 0) null)) marks)
       by_shape (pair w x y z digits) = high_otherwise f c (pair_high c w x y z digits)
 
--- Where a character is marked one begins.
+-- At an offset that is marked a character begins.
 changed_wide : (f : Flavor) (bytes : List ℕ) (i : ℕ) → is_changed_at f bytes i ≡ true → 0 < width_at f bytes i
 unfolding first_width_by
 changed_wide f bytes i changed = grind (arith, changed, nat_tests)
 
--- A text with a character that is encoded otherwise has an offset where one stands.
+-- In the encoding of a text with a character that needs conversion, such a character begins at some
+-- offset.
 pub otherwise_stands : (f : Flavor) (text rest : List ℕ) → IsText text → Any (IsEncodedOtherwise f) text →
     (i : ℕ) × (c : ℕ) × StandsAt f (encoding f text ++ rest) i c × (i < length (encoding f text)) × IsEncodedOtherwise f c
 otherwise_stands f [] rest is_text any = absurd (any_nil (IsEncodedOtherwise f) any)
@@ -224,11 +226,11 @@ otherwise_stands f (c ∷ text) rest is_text any =
     ))
     (any_cons (IsEncodedOtherwise f) c text any)
 
--- ---- the front
+-- ---- the prefixes
 
 module _ (f : Flavor) (bytes : List ℕ) (n : ℕ) (fits : n ≤ length bytes)
     (fine : (i : ℕ) → i < n → is_ill_formed_at f (window_of bytes) i ≡ false) where
-  -- It ends where a byte is ill-formed, for all encoded characters.
+  -- The valid prefix ends at an ill-formed byte, or at the end of the bytes.
   pub valid_front : (n < length bytes → is_ill_formed_at f (window_of bytes) n ≡ true) → IsFront Encoded f bytes n
   valid_front stop = record {
     within = fits;
@@ -244,7 +246,8 @@ module _ (f : Flavor) (bytes : List ℕ) (n : ℕ) (fits : n ≤ length bytes)
       whole : AreWhole Encoded f (take n bytes)
       whole = record { text = reading f (take n bytes); reads = read_before f bytes n fits none_crosses fine; inside = none_outside _ (λ c none. none) (reading f (take n bytes)) }
 
-  -- It ends there, or before a character that changes, for those that are the same in UTF-8.
+  -- The unchanged prefix ends at an ill-formed byte, before a character that needs conversion, or
+  -- at the end of the bytes.
   pub unchanged_front : ((i : ℕ) → i < n → is_changed_at f bytes i ≡ false) →
       (n < length bytes → (is_ill_formed_at f (window_of bytes) n ≡ true) ⊎ (is_changed_at f bytes n ≡ true)) → IsFront Unchanged f bytes n
   unchanged_front usual stop = record {

@@ -1,4 +1,4 @@
--- Bytes that may follow each other are those of whole encoded characters.
+-- Bytes that can follow each other are the bytes of whole encoded characters.
 use Rattle.std.proofs.Common.{◌≡◌, ℕ, zero, suc, ◌<◌, ◌≤◌, ◌↔◌, inl, inr, ⊎_elim, true, false, List, [], ◌∷◌, refl, sym, ◌∙◌, arith, length, take, true≢false, suc-add}
 use Rattle.std.proofs.lemmas.Bool.{and_parts, eqb-true, cases_eq, cases_lt, cases_Bool}
 use Rattle.std.proofs.lemmas.Bool.Decides.{nat_tests}
@@ -13,19 +13,19 @@ use Rattle.cesu8_decode.proofs.by_offset.WidthTests.{continuation}
 use Rattle.cesu8_decode.proofs.chunks.ShownBytes.{Begins, IsSecond, if_nothing, if_third, if_low}
 use Rattle.cesu8_decode.proofs.chunks.WholeBytes.{none_whole, whole_with}
 
--- A high surrogate has ED and A0 to AF.
+-- A high surrogate begins with ED and a byte from A0 to AF.
 high_bytes : (s : CharacterSet) (a b : ℕ) → is_high_surrogate s a b ≡ true → (has_changed s ≡ true) × (a ≡ 0xED) × (0xA0 ≤ b) × (b < 0xB0)
 high_bytes s a b high = grind (arith, nat_tests)
 
--- Where what changes is meant, a low surrogate begins with B0.
+-- If the set has surrogate pairs, the second byte of a low surrogate is B0 or more.
 pub low_if_meant : (s : CharacterSet) → has_changed s ≡ true → first_low s ≡ 0xB0
 low_if_meant s meant = grind arith
 
--- The third byte of a character continues it,
+-- The byte after a lead byte of three bytes and its second byte is a continuation byte.
 third_byte : (s : CharacterSet) (f : Flavor) (d e g h j : ℕ) → d < 0xE0 → 0xE0 ≤ g → follows s f d e g h j ≡ true → IsContinuation j
 third_byte s f d e g h j before lead fits = continuation j (if_third s f h j (grind (arith, nat_tests)))
 
--- and the second fits the first.
+-- The second byte of a character of three bytes fits the first.
 fits_three : (s : CharacterSet) (f : Flavor) (a b : ℕ) → IsSecond s f a b → is_high_surrogate s a b ≡ false → (a ≡ 0xE0 → 0xA0 ≤ b) × (a ≡ 0xED → b < 0xA0)
 fits_three s f a b second other = grind (arith, nat_tests)
 
@@ -39,18 +39,19 @@ null_of Mutf8 a b bytes lead null = found_null Mutf8 (a ∷ b ∷ bytes) refl (o
 
 -- ---- boundaries
 
--- No character crosses the boundary behind four bytes.
+-- No character crosses the offset after the four bytes.
 pub record Ends (s : CharacterSet) (a b d e : ℕ) : Type 0 where
   pub last : e < 0xC0
   pub second_last : d < 0xE0
   pub no_high : is_high_surrogate s b d ≡ false
   pub no_higher : is_high_surrogate s a b ≡ false
 
--- The test of a boundary tells that.
+-- The test `crosses` decides this.
 ends_if : (s : CharacterSet) (a b d e : ℕ) → (crosses s a b d e ≡ false) ↔ Ends s a b d e
 ends_if s a b d e = (λ none. grind (arith, nat_tests), λ ends. grind (arith, nat_tests))
 
--- Each byte may follow those before it, of which the first four are given, and none crosses their end.
+-- Each byte can follow the bytes before it, of which the first four are given, and no character
+-- crosses the end.
 abbrev pub FollowToEnd : CharacterSet → Flavor → (a b d e : ℕ) → List ℕ → Type 0
 FollowToEnd s f a b d e [] = Ends s a b d e
 FollowToEnd s f a b d e (g ∷ bytes) = (follows s f a b d e g ≡ true) × FollowToEnd s f b d e g bytes
@@ -61,11 +62,12 @@ follows_later s f a i window = rw (suc-add i 1, suc-add i 2, suc-add i 3, suc-ad
 crosses_later : (s : CharacterSet) (a i : ℕ) (window : List ℕ) → crosses_at s (a ∷ window) (suc i) ≡ crosses_at s window i
 crosses_later s a i window = rw (suc-add i 1, suc-add i 2, suc-add i 3) refl
 
--- The first n bytes of a window may, by their index, and none crosses their end.
+-- The first n bytes of a window can follow each other, by their index, and no character crosses
+-- their end.
 abbrev pub FollowBefore : CharacterSet → Flavor → List ℕ → ℕ → Type 0
 FollowBefore s f window n = ((k : ℕ) → k < n → follows_at s f window k ≡ true) × (crosses_at s window n ≡ false)
 
--- So they may in turn,
+-- Bytes that can follow each other by index can do it in turn.
 in_turn : (s : CharacterSet) (f : Flavor) (a b d e n : ℕ) (bytes : List ℕ) → n ≤ length bytes →
     FollowBefore s f (a ∷ b ∷ d ∷ e ∷ bytes) n → FollowToEnd s f a b d e (take n bytes)
 in_turn s f a b d e zero bytes fits first = (ends_if s a b d e).0 first.1
@@ -78,7 +80,7 @@ in_turn s f a b d e (suc n) (g ∷ bytes) fits first = (
   ),
 )
 
--- and the other way round.
+-- Bytes that can follow each other in turn can do it by index.
 pub by_index : (s : CharacterSet) (f : Flavor) (a b d e n : ℕ) (bytes : List ℕ) → n ≤ length bytes →
     FollowToEnd s f a b d e (take n bytes) → FollowBefore s f (a ∷ b ∷ d ∷ e ∷ bytes) n
 by_index s f a b d e zero bytes fits all = (λ k before. absurd (omega arith), (ends_if s a b d e).1 all)
@@ -94,12 +96,13 @@ by_index s f a b d e (suc n) (g ∷ bytes) fits all =
 
 -- ---- one character after another
 
--- Up to n bytes are whole characters if they begin at a boundary and may follow each other.
+-- At most n bytes are whole characters of the set, if they begin at a boundary and can follow each
+-- other.
 abbrev AreWholeFrom : CharacterSet → Flavor → ℕ → Type 0
 AreWholeFrom s f n = (a b d e : ℕ) (bytes : List ℕ) → length bytes ≤ n → Ends s a b d e → FollowToEnd s f a b d e bytes → AreWhole s f bytes
 
 module _ (s : CharacterSet) (f : Flavor) (n : ℕ) (later : AreWholeFrom s f n) where
-  -- Behind the three bytes of a high surrogate,
+  -- The three bytes of a high surrogate and the bytes after them are whole characters.
   in_pair : (e g h j : ℕ) (bytes : List ℕ) → length bytes ≤ n → is_high_surrogate s g h ≡ true → 0x80 ≤ j → j < 0xC0 →
       FollowToEnd s f e g h j bytes → AreWhole s f (g ∷ h ∷ j ∷ bytes)
   in_pair e g h j [] few high j_low j_high all = absurd (true≢false (sym high ∙ all.no_high))
@@ -116,7 +119,8 @@ module _ (s : CharacterSet) (f : Flavor) (n : ℕ) (later : AreWholeFrom s f n) 
       (found_pair f (g ∷ h ∷ j ∷ k ∷ l ∷ m ∷ bytes) (omega arith) parts.1 parts.2 parts.3 ((j_low, j_high), found.0, (low, fifth.1), sixth))
       s (inl parts.0) (later j k l m bytes (omega arith) (grind (arith, nat_tests)) all.1.1.1)
 
-  -- behind the first two of a character of three, or of a surrogate pair,
+  -- The first two bytes of a character of three bytes, or of a surrogate pair, and the bytes after
+  -- them are whole characters.
   in_three : (d e g h : ℕ) (bytes : List ℕ) → length bytes ≤ n → d < 0xE0 → e < 0xC0 → 0xE0 ≤ g → g < 0xF0 → IsSecond s f g h →
       FollowToEnd s f d e g h bytes → AreWhole s f (g ∷ h ∷ bytes)
   in_three d e g h [] few before last lead small two all = absurd (omega (arith, all.second_last))
@@ -131,7 +135,7 @@ module _ (s : CharacterSet) (f : Flavor) (n : ℕ) (later : AreWholeFrom s f n) 
       (later e g h j bytes (omega arith) (grind (arith, nat_tests)) all.1))
       (cases_Bool (is_high_surrogate s g h))
 
-  -- of one of two,
+  -- The two bytes of a character and the bytes after them are whole characters.
   in_two : (d e g h : ℕ) (bytes : List ℕ) → length bytes ≤ n → d < 0xE0 → e < 0xC0 → g < 0xE0 → IsSecond s f g h →
       FollowToEnd s f d e g h bytes → AreWhole s f (g ∷ h ∷ bytes)
   in_two d e g h bytes few before last low two all =
@@ -145,7 +149,7 @@ module _ (s : CharacterSet) (f : Flavor) (n : ℕ) (later : AreWholeFrom s f n) 
       (found_two f (g ∷ h ∷ bytes) (omega arith) (omega (arith, other, two.no_c1, two.leads)) low next) s (inr refl) rest)
       (cases_eq g 0xC0)
 
-  -- behind the first of more than one byte,
+  -- A lead byte and the bytes after it are whole characters.
   in_character : (b d e g : ℕ) (bytes : List ℕ) → length bytes ≤ n → is_high_surrogate s b d ≡ false → d < 0xE0 → e < 0xC0 → 0xC0 ≤ g →
       FollowToEnd s f b d e g bytes → AreWhole s f (g ∷ bytes)
   in_character b d e g [] few no_high before last lead all = absurd (omega (arith, all.last))
@@ -157,7 +161,7 @@ module _ (s : CharacterSet) (f : Flavor) (n : ℕ) (later : AreWholeFrom s f n) 
       (cases_lt g 0xE0))
       (if_nothing s f g h (grind (arith, nat_tests)))
 
--- and from boundary to boundary they are.
+-- Bytes from one boundary to another that can follow each other are whole characters.
 are_whole : (s : CharacterSet) (f : Flavor) (n : ℕ) → AreWholeFrom s f n
 are_whole s f n a b d e [] few ends all = none_whole s f
 are_whole s f zero a b d e (g ∷ bytes) few ends all = absurd (omega arith)
@@ -172,11 +176,12 @@ are_whole s f (suc n) a b d e (g ∷ bytes) few ends all =
     (λ (found : IsSecond s f e g). absurd (omega (arith, found.leads, ends.last)))
     (if_nothing s f e g (grind (arith, nat_tests)))
 
--- A boundary stands before the first byte, behind fillers.
+-- After four zeros is a boundary.
 pub start : (s : CharacterSet) → Ends s 0 0 0 0
 start s = grind (arith, nat_tests)
 
--- Bytes of which each may follow those before it are whole characters up to a boundary that none crosses.
+-- If each byte can follow the bytes before it, the bytes up to an offset that no character crosses
+-- are whole characters.
 pub followed_whole : (s : CharacterSet) (f : Flavor) (bytes : List ℕ) (m n : ℕ) → FirstFollow s f bytes m → n ≤ m →
     crosses_at s (after_fillers bytes) n ≡ false → AreWhole s f (take n bytes)
 followed_whole s f bytes m n first fits none =

@@ -1,4 +1,4 @@
--- What bytes are read as behind a front in which nothing changes.
+-- What bytes decode to after an unchanged prefix.
 use Rattle.std.proofs.Common.{◌≡◌, ℕ, ◌+◌, ◌^◌, ◌<◌, ◌≤◌, inl, inr, ⊎_elim, List, [], ◌∷◌, ◌++◌, refl, sym, ap, ◌∙◌, subst, arith, append_assoc, length, take, drop, length-drop, length-append, Ok, Err, Result, IsErr, Vec, vec_capacity}
 use Rattle.std.proofs.lemmas.Bool.{cases_lt, false≢true}
 use Rattle.std.proofs.lemmas.Bool.Decides.{nat_tests}
@@ -30,7 +30,7 @@ use Rattle.cesu8_decode.proofs.chunks.UnchangedFronts.{unchanged_front_chunk, no
 
 -- ---- what begins bytes
 
--- A character that is encoded otherwise is a surrogate pair, or C0 80 in MUTF-8,
+-- A character whose encoding is not its UTF-8 is a surrogate pair, or C0 80 in MUTF-8.
 pub otherwise_begins : (f : Flavor) (c : ℕ) (rest : List ℕ) → Shape c → IsEncodedOtherwise f c → BeginsChanged f (encoding f (c ∷ []) ++ rest)
 otherwise_begins Cesu8 c rest (one ascii) high = absurd (omega arith)
 otherwise_begins Mutf8 c rest (one ascii) (inl null) = rw (encoding_one Mutf8 c ascii, short_form_null c null) (inr refl)
@@ -40,16 +40,16 @@ otherwise_begins f c rest (three x y z digits) needs = absurd (not_otherwise f c
 otherwise_begins f c rest (pair w x y z digits) needs =
     rw (encoding_pair f c w x y z digits) (inl (grind arith))
 
--- so none begins bytes that begin with neither.
+-- If bytes begin with neither of these, no character whose encoding is not its UTF-8 begins them.
 none_otherwise : (f : Flavor) (bytes : List ℕ) → ¬ (BeginsChanged f bytes) → (c : ℕ) (rest : List ℕ) → IsEncodedOtherwise f c →
     ¬ (BeginsWith f bytes c rest)
 none_otherwise f bytes neither c rest needs begins =
     neither (subst (BeginsChanged f) (sym begins.bytes_are) (otherwise_begins f c rest (shape c begins.scalar) needs))
 
--- ---- what is read behind a chunk of text
+-- ---- what is decoded after a chunk of text
 
 module _ (f : Flavor) (bytes rest chunk : List ℕ) (read : IsChunk f Strict bytes rest chunk) where
-  -- The text of the rest ends that of all bytes,
+  -- The text of all bytes is the text so far and then the text of the rest.
   pub only_behind : (text : List ℕ) → IsStrictReading f rest text →
       IsOnlyText (IsStrictReading f bytes) (read.text ++ text) (chunk ++ utf8 text)
   only_behind text reads =
@@ -63,23 +63,23 @@ module _ (f : Flavor) (bytes rest chunk : List ℕ) (read : IsChunk f Strict byt
         utf8_is = utf8_append read.text text ∙ ap (λ bs. bs ++ utf8 text) (sym read.written);
       }
 
-  -- and where the rest has none, they have none.
+  -- If the rest has no strict reading, all bytes have none.
   pub none_before : HasNoStrictReading f rest → HasNoStrictReading f bytes
   none_before none whole reads =
       let found = after_text f read.text whole rest read.scalars reads.0 (reads.1 ∙ read.strict_reading refl) in
       none found.text found.reading
 
--- What is read so far is a chunk of its own.
+-- What is decoded so far is a chunk of the bytes.
 chunk_of : (f : Flavor) (bytes rest old new : List ℕ) (so_far : IsReadSoFar f Strict bytes rest old new) → IsChunk f Strict bytes rest (utf8 so_far.text)
 chunk_of f bytes rest old new so_far = grind arith
 
--- Nothing is appended where there is no strict reading.
+-- Nothing is appended if there is no strict reading.
 pub none_appended : {Z E : Type 0} (f : Flavor) (which : Strictness) (bytes : List ℕ) (before : Vec ℕ Z) (result : Result (Vec ℕ Z) E) → IsErr result →
     (which ≡ Strict) × HasNoStrictReading f bytes → AppendsReading f which bytes before result
 none_appended f which bytes before (Ok text) err none = absurd (false≢true err)
 none_appended f which bytes before (Err refusal) err none = record { text = tt; capacity = tt; none = none }
 
--- Where the strict reading of the rest is appended behind what is read so far, that of all bytes is.
+-- If the text of the rest is appended after the text so far, the text of all bytes is appended.
 pub appended_behind : {Z E : Type 0} (f : Flavor) (bytes rest : List ℕ) (before between : Vec ℕ Z) (result : Result (Vec ℕ Z) E) →
     IsReadSoFar f Strict bytes rest before.items between.items → vec_capacity between ≡ vec_capacity before →
     AppendsReading f Strict rest between result → AppendsReading f Strict bytes before result
@@ -94,7 +94,7 @@ appended_behind f bytes rest before between (Ok text) read same appends = record
   none = tt;
 }
 
--- The text of some bytes has a byte at least, and no more than they.
+-- The text of bytes that are not empty is not empty, and no longer than the bytes.
 pub record HasLengthOf (rest : List ℕ) (len : ℕ) : Type 0 where
   pub some : 0 < length rest → 0 < len
   pub fits : len ≤ length rest
@@ -104,28 +104,30 @@ text_length f rest text reads =
     let bounds = length_bounds f text reads.0 in
     record { some = λ more. omega (arith, bounds.high, ap length reads.1); fits = omega (arith, bounds.low, ap length reads.1) }
 
--- ---- what is read behind a front
+-- ---- what is decoded after a prefix
 
 module _ (f : Flavor) (bytes : List ℕ) (n : ℕ) (front : IsFront Unchanged f bytes n) where
-  -- The front is appended behind what is read so far.
+  -- The unchanged prefix is appended as it is.
   pub front_appended : (whole before old new : List ℕ) → IsReadSoFar f Strict whole bytes before old → new ≡ old ++ take n bytes →
       IsReadSoFar f Strict whole (drop n bytes) before new
   front_appended whole before old new so_far is =
       more_read f Strict whole bytes (drop n bytes) before old new so_far
       (chunk_appended f Strict bytes (drop n bytes) (take n bytes) old new (unchanged_front_chunk f bytes n front Strict) is)
 
-  -- Bytes with more have no strict reading where neither begins behind the front.
+  -- If no character that needs conversion follows the unchanged prefix, and bytes are left, there
+  -- is no strict reading.
   pub unless_begun : ¬ (BeginsChanged f (drop n bytes)) → n < length bytes → HasNoStrictReading f bytes
   unless_begun neither more = no_strict_reading f bytes n front (none_otherwise f (drop n bytes) neither) more
 
--- ---- what is written behind it to a caller's buffer
+-- ---- what is written after the prefix to a caller's slice
 
--- Where something is written of bytes that are some, there is room, and it is no longer than they are.
+-- If the text of bytes that are not empty is written, the slice is not empty, and the text is no
+-- longer than the bytes.
 pub written_length : (f : Flavor) (rest old new : List ℕ) (len : ℕ) → PutsReading f Strict rest (Ok len) old new →
     (0 < length rest → 0 < length old) × (len ≤ length rest)
 written_length f rest old new len puts = grind (arith, nat_tests, text_length)
 
--- So is the length that is needed, and more than there is room for.
+-- The length that is needed is also no longer than the bytes, and it is more than the slice has.
 pub needed_length : (f : Flavor) (rest old new : List ℕ) (no_room : NoRoom) → PutsReading f Strict rest (Err (unwritten.NoRoom no_room)) old new →
     (no_room.needed ≤ length rest) × (length old < no_room.needed)
 needed_length f rest old new no_room puts = grind (arith, nat_tests, text_length)
@@ -134,7 +136,7 @@ module _ (f : Flavor) (bytes buf : List ℕ) (n : ℕ) (front : IsFront Unchange
   read : IsChunk f Strict bytes (drop n bytes) (take n bytes)
   read = unchanged_front_chunk f bytes n front Strict
 
-  -- The front is copied before what was written,
+  -- If the prefix is copied before the text of the rest, the text of all bytes is written.
   pub front_put : (start len : ℕ) (new out : List ℕ) → n ≤ length buf → start ≡ n →
       PutsReading f Strict (drop n bytes) (Ok len) (drop start buf) new → out ≡ take n bytes ++ new → PutsReading f Strict bytes (Ok (n + len)) buf out
   front_put start len new out room start_is puts is =
@@ -164,7 +166,8 @@ module _ (f : Flavor) (bytes buf : List ℕ) (n : ℕ) (front : IsFront Unchange
             ∙ sym (append_assoc (take n bytes) (utf8 text) (drop (n + len) buf)),
       )
 
-  -- and its length is added to what is needed,
+  -- If the slice is too short for the rest, the length of the prefix is added to the length that is
+  -- needed.
   pub front_lacks_room : (start : ℕ) (new out : List ℕ) (no_room all : NoRoom) → (n ≤ length buf → start ≡ n) → n < length bytes →
       PutsReading f Strict (drop n bytes) (Err (unwritten.NoRoom no_room)) (drop start buf) new → all.needed ≡ n + no_room.needed → out ≡ buf →
       PutsReading f Strict bytes (Err (unwritten.NoRoom all)) buf out
@@ -185,7 +188,7 @@ module _ (f : Flavor) (bytes buf : List ℕ) (n : ℕ) (front : IsFront Unchange
       (λ (room : n ≤ length buf). omega (arith, long, before, found.2, short.1, length-drop start buf, start_is room))
       (cases_lt (length buf) n)))
 
-  -- and where the others have no text, all have none.
+  -- If the rest has no text, all bytes have none.
   pub front_lacks_text : (old new out : List ℕ) → PutsReading f Strict (drop n bytes) (Err unwritten.NoText) old new → out ≡ buf →
       PutsReading f Strict bytes (Err unwritten.NoText) buf out
   front_lacks_text old new out puts same =

@@ -1,4 +1,4 @@
--- How many bytes at the front are whole characters of a set.
+-- The length of the longest prefix of whole characters of a set.
 use Rattle.std.proofs.Common.{◌≡◌, ℕ, ◌+◌, ◌<◌, ◌≤◌, ◌↔◌, ⊎_elim, true, false, true≢false, cond, leb, get_or, ltb, List, [], ◌∷◌, ◌++◌, refl, sym, ap, ◌∙◌, subst, arith, length, take, drop, length-append, length-drop}
 use Rattle.std.proofs.Math.Seq.{take-add, take-append_seam, take-length}
 use Rattle.std.proofs.lemmas.Bool.{agree_below_at, cases_lt, ltb-true}
@@ -16,7 +16,8 @@ use Rattle.cesu8_decode.proofs.chunks.WholeBytes.{none_outside, character_whole,
 use Rattle.cesu8_decode.proofs.chunks.FollowingBytes.{followed_whole}
 use Rattle.cesu8_decode.proofs.chunks.EncodedFollow.{whole_follow}
 
--- The last boundary that none crosses is the front, if bytes follow up to a byte that may not.
+-- If bytes can follow each other up to a byte that cannot, the prefix ends at the last offset that
+-- no character crosses.
 pub front_at : (s : CharacterSet) (f : Flavor) (bytes : List ℕ) (m n : ℕ) → FollowUpTo s f bytes m → n ≤ m →
     crosses_at s (after_fillers bytes) n ≡ false → ((k : ℕ) → n < k → k ≤ m → crosses_at s (after_fillers bytes) k ≡ true) →
     IsFront s f bytes n
@@ -29,18 +30,19 @@ front_at s f bytes m n follow fits none crossed = record {
       (λ (short : j ≤ m). true≢false (sym (crossed j longer short) ∙ found.1)) (cases_lt m j);
 }
 
--- A byte from C0 on shows whether a lead byte stands before it.
+-- The class of a byte from C0 on shows whether a lead byte precedes it.
 pub lead_shown : (s : CharacterSet) (f : Flavor) (e g : ℕ) → 0xC0 ≤ g →
     shown s f e g ≡ cond (leb 0xF0 e) 0x40 (cond (leb 0xC0 e) 0x01 0)
 unfolding shown
 lead_shown s f e g high = grind (arith, nat_tests)
 
--- Where it may follow and no character changes, none crosses the boundary before it.
+-- If a byte from C0 on can follow, and the set has no surrogate pairs, no character crosses the
+-- offset before it.
 pub before_lead : (s : CharacterSet) (f : Flavor) → has_changed s ≡ false → (a b d e g : ℕ) → 0xC0 ≤ g → follows s f a b d e g ≡ true →
     crosses s a b d e ≡ false
 before_lead s f none a b d e g high fits = let tests = rw (lead_shown s f e g high, none) at fits in grind (arith, nat_tests)
 
--- There the front ends, if the character that the byte leads is cut off.
+-- If the character that a byte from C0 on begins is cut off, the prefix ends before this byte.
 pub cut_at : (s : CharacterSet) (f : Flavor) (bytes : List ℕ) (m n : ℕ) → has_changed s ≡ false → FollowUpTo s f bytes m → n < m →
     0xC0 ≤ get_or (after_fillers bytes) (n + 4) 0 → ((k : ℕ) → n < k → k ≤ m → crosses_at s (after_fillers bytes) k ≡ true) → IsFront s f bytes n
 cut_at s f bytes m n none up_to before high crossed =
@@ -48,7 +50,7 @@ cut_at s f bytes m n none up_to before high crossed =
     front_at s f bytes m n up_to (omega (arith, before))
     (before_lead s f none (w n) (w (n + 1)) (w (n + 2)) (w (n + 3)) (w (n + 4)) high (up_to.first.follow n before)) crossed
 
--- A lead byte crosses the boundaries that its character has within,
+-- The character of a lead byte crosses the offsets inside it.
 module _ (s : CharacterSet) (bytes : List ℕ) (n : ℕ) where
   byte : (i : ℕ) → i ≡ n + 4 → get_or (after_fillers bytes) i 0 ≡ get_or (after_fillers bytes) (n + 4) 0
   byte i = ap (λ i. get_or (after_fillers bytes) i 0)
@@ -59,13 +61,13 @@ module _ (s : CharacterSet) (bytes : List ℕ) (n : ℕ) where
   pub crosses_second : 0xE0 ≤ get_or (after_fillers bytes) (n + 4) 0 → crosses_at s (after_fillers bytes) (n + 2) ≡ true
   crosses_second high = let lead = byte (n + 2 + 2) (omega arith) in grind (arith, nat_tests)
 
--- and is none of the fillers.
+-- A lead byte is none of the four zeros before the bytes.
 pub behind_fillers : (bytes : List ℕ) (i : ℕ) → 0xC0 ≤ get_or (after_fillers bytes) i 0 → 4 ≤ i
 behind_fillers bytes i high =
     ⊎_elim (λ (near : i < 4). let filler = agree_below_at (λ i. ltb (get_or (after_fillers bytes) i 0) 0xC0) (λ _. true) 4 i refl near in
     absurd (omega (arith, ltb-true _ 0xC0 filler))) (λ far. far) (cases_lt i 4)
 
--- All bytes are one, if they are whole.
+-- If all bytes are whole characters, the prefix is all bytes.
 pub all_front : (s : CharacterSet) (f : Flavor) (bytes : List ℕ) → AreWhole s f bytes → IsFront s f bytes (length bytes)
 all_front s f bytes whole = record {
   within = omega arith;
@@ -74,22 +76,22 @@ all_front s f bytes whole = record {
 }
 
 module _ (s : CharacterSet) (f : Flavor) (bytes : List ℕ) (n : ℕ) (front : IsFront s f bytes n) where
-  -- It is of all bytes exactly if they are whole.
+  -- The prefix is all bytes if and only if they are whole characters.
   pub front_of_all : (n ≡ length bytes) ↔ AreWhole s f bytes
   front_of_all = (
     λ all. subst (AreWhole s f) (take_all n bytes (omega (arith, all))) front.whole,
     λ whole. let all = subst (AreWhole s f) (sym (take-length bytes)) whole in grind (arith, front.greatest (length bytes)),
   )
 
-  -- There are more bytes where they are not whole.
+  -- If the prefix is not all bytes, bytes are left after it.
   pub more_behind : ¬ (n ≡ length bytes) → n < length bytes
   more_behind other = omega (arith, front.within, other)
 
-  -- A front is the encoding of its text, at the front of all bytes.
+  -- All bytes are the encoding of the text of the prefix, and the bytes after it.
   pub bytes_are : bytes ≡ encoding f front.whole.text ++ drop n bytes
   bytes_are = sym (take-append-drop n bytes) ∙ ap (λ bs. bs ++ drop n bytes) (sym front.whole.reads.1)
 
-  -- No character of the set begins behind a front, as it would make a longer one.
+  -- No character of the set begins after the prefix, since it would make the prefix longer.
   pub none_behind : (c : ℕ) (rest : List ℕ) → ¬ (IsOutside s f c) → ¬ (BeginsWith f (drop n bytes) c rest)
   none_behind c rest inside begins =
       let character = encoding f (c ∷ []) in
@@ -102,8 +104,8 @@ module _ (s : CharacterSet) (f : Flavor) (bytes : List ℕ) (n : ℕ) (front : I
       (subst (AreWhole s f) (sym are)
       (parts_whole s f (take n bytes) character front.whole (character_whole s f c begins.scalar inside)))
 
--- The front of all encoded characters is what `valid_up_to` gives: none begins behind it, so the lossy
--- reading replaces the byte there.
+-- The valid prefix is what `valid_up_to` returns: no character begins after it, so lossy decoding
+-- replaces the next byte.
 pub valid_up_to_of : (f : Flavor) (bytes : List ℕ) (n : ℕ) → IsFront Encoded f bytes n → IsValidUpTo f bytes n
 valid_up_to_of f bytes n front = record {
   within = front.within;
@@ -126,11 +128,11 @@ valid_up_to_of f bytes n front = record {
         let there : StandsAt f (encoding f text ++ drop n bytes) j c = subst (λ bs. StandsAt f bs j c) (bytes_are Encoded f bytes n front) stands in
         omega (arith, none_crosses_encoding f text (drop n bytes) front.whole.reads.0 j c there (omega arith))
 
--- Where an unchanged character crosses a boundary, an encoded one does.
+-- If an unchanged character crosses an offset, an encoded character crosses it.
 crosses_encoded : (window : List ℕ) (i : ℕ) → crosses_at Unchanged window i ≡ true → crosses_at Encoded window i ≡ true
 crosses_encoded window i crossed = grind (arith, nat_tests)
 
--- Bytes whose end one crosses have no strict reading, since it is cut off.
+-- Bytes whose last character is cut off have no strict reading.
 pub none_cut_off : (f : Flavor) (bytes : List ℕ) → crosses_at Unchanged (after_fillers bytes) (length bytes) ≡ true → HasNoStrictReading f bytes
 none_cut_off f bytes crossed text reads =
     let whole : AreWhole Encoded f bytes = record { text = text; reads = reads; inside = none_outside _ (λ c none. none) text } in

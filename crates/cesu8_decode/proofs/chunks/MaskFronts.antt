@@ -1,4 +1,4 @@
--- What the masks of at most 64 bytes tell of their front.
+-- What the masks of at most 64 bytes say about their prefixes.
 use Rattle.std.proofs.Common.{◌≡◌, ℕ, ◌+◌, ◌<◌, ◌≤◌, ◌⊎◌, ⊎_elim, Bool, true, false, ltb, min, bit_or, map, zero-add, ◌^◌, ◌&&◌, ◌||◌, List, sym, ap, ◌∙◌, subst, arith, length}
 use Rattle.std.proofs.lemmas.Bool.{cases_lt}
 use Rattle.std.proofs.lemmas.Bool.Decides.{nat_tests}
@@ -21,7 +21,7 @@ use Rattle.cesu8_decode.proofs.decoder.WindowMasks.{marks_below}
 use Rattle.cesu8_decode.proofs.decoder.MaskBits.{bits_from, marks_from, or_bits, told_by}
 use Rattle.cesu8_decode.proofs.chunks.EventFronts.{valid_front, unchanged_front, none_covers}
 
--- Two masks together mark what either marks.
+-- The bits of both masks together mark the offsets that pass either test.
 pub either_marks : (p q : ℕ → Bool) (n : ℕ) {a b : ℕ} → Marks a p 0 n → Marks b q 0 n → Marks (bit_or a b) (λ i. p i || q i) 0 n
 either_marks p q n first second =
     marks_from (λ i. p i || q i) 0 n (told_by (λ i. ltb i n && (p (0 + i) || q (0 + i))) (λ i. spread (ltb i n) (p (0 + i)) (q (0 + i)))
@@ -37,13 +37,13 @@ mask_small test at n {a = a} few marks =
     let low = subst (λ m. m < 2 ^ length tests) (sym marks) (mask_l-lt tests) in
     marks_below n a few (subst (λ k. a < 2 ^ k) (length-map-range_with_len test at n) low)
 
--- So many of n offsets fail a test, up to the first that passes it.
+-- The first m of n offsets fail a test, and the next one passes it.
 pub record IsFirst (test : ℕ → Bool) (n m : ℕ) : Type 0 where
   pub within : m ≤ n
   pub before : (i : ℕ) → i < m → test i ≡ false
   pub there : m < n → test m ≡ true
 
--- The lowest bit of a mask tells that.
+-- The lowest bit of a mask is the first offset that passes.
 pub first_marked : (test : ℕ → Bool) (n mask : ℕ) → n ≤ 64 → Marks mask test 0 n → (m : ℕ) →
     m ≡ min (trailing_zeros w64 mask) n → IsFirst test n m
 first_marked test n mask few marks m is =
@@ -88,7 +88,7 @@ module _ (f : Flavor) (bytes : List ℕ) (window : Window) (few : length bytes �
   of_nulls : Marks nulls (is_null_at f bytes) 0 (length bytes)
   of_nulls = subst (Marks nulls (is_null_at f bytes) 0) all is.nulls
 
-  -- The masks of a window tell the front of all encoded characters,
+  -- The mask of ill-formed bytes gives the valid prefix.
   pub valid_by_mask : (m : ℕ) → m ≡ min (trailing_zeros w64 ill) (length bytes) → IsFront Encoded f bytes m
   valid_by_mask m m_is =
       let first = first_marked (is_ill_formed_at f (window_of bytes)) (length bytes) ill few of_ill m m_is in
@@ -97,7 +97,7 @@ module _ (f : Flavor) (bytes : List ℕ) (window : Window) (few : length bytes �
   changed_marks : Marks (bit_or pairs nulls) (is_changed_at f bytes) 0 (length bytes)
   changed_marks = either_marks (is_pair_at f bytes) (is_null_at f bytes) (length bytes) of_pairs of_nulls
 
-  -- and that of those that are the same in UTF-8.
+  -- The masks of a window give the unchanged prefix.
   pub unchanged_by_masks : (m : ℕ) →
       m ≡ min (trailing_zeros w64 (bit_or ill (bit_or pairs nulls))) (length bytes) → IsFront Unchanged f bytes m
   unchanged_by_masks m m_is =
@@ -113,7 +113,7 @@ module _ (f : Flavor) (bytes : List ℕ) (window : Window) (few : length bytes �
       some : (p q : Bool) → (p || q) ≡ true → (p ≡ true) ⊎ (q ≡ true)
       some p q is = grind (arith, is, nat_tests)
 
-  -- If no byte is ill-formed, the characters that change are known,
+  -- If no byte is ill-formed, the masks mark the characters that need conversion.
   pub changes_by_masks : ill ≡ 0 → AreChanges f bytes (bit_or pairs nulls)
   changes_by_masks none = record {
     marks = changed_marks;
@@ -121,14 +121,14 @@ module _ (f : Flavor) (bytes : List ℕ) (window : Window) (few : length bytes �
         ∙ unmarked ill (is_ill_formed_at f (window_of bytes)) 0 (length bytes) of_ill i (ap (λ a. bit_at a i) none ∙ bit_at-zero i) inside;
   }
 
-  -- so some do if the front is not all bytes,
+  -- If no byte is ill-formed, and the prefix is not all bytes, some character needs conversion.
   pub some_change : ill ≡ 0 → (m : ℕ) → m ≡ min (trailing_zeros w64 (bit_or ill (bit_or pairs nulls))) (length bytes) → m < length bytes →
       ¬ (bit_or pairs nulls ≡ 0)
   some_change none m m_is more no_change =
       let zero : bit_or ill (bit_or pairs nulls) ≡ 0 = (λ i. bit_or (none i) (no_change i)) in
       omega (arith, more, m_is, few, ap (trailing_zeros w64) zero, trailing_of_zero 64)
 
-  -- and otherwise there is no strict reading.
+  -- If a byte is ill-formed, there is no strict reading.
   pub none_by_mask : 0 < ill → HasNoStrictReading f bytes
   none_by_mask some text reads =
       let bits = bit_at-trailing_zeros w64 ill some (mask_small (is_ill_formed_at f (window_of bytes)) 0 (length bytes) few of_ill) in

@@ -1,4 +1,4 @@
--- Where a byte shows that no encoded character crosses the boundary before it.
+-- Bytes before which no encoded character can cross, by their value alone.
 use Rattle.std.proofs.Common.{◌≡◌, ℕ, zero, suc, ◌+◌, ◌-◌, ◌<◌, ◌≤◌, ◌⊎◌, inl, ⊎_elim, List, [], ◌∷◌, ◌++◌, sym, ap, ◌∙◌, subst, arith, length, take, drop, get_or}
 use Rattle.std.specs.Prelude.{⊤}
 use Rattle.std.proofs.lemmas.Bool.{cases_lt}
@@ -11,11 +11,11 @@ use Rattle.cesu8_text.proofs.encoding.Forms.{encoding_two, encoding_three, encod
 use Rattle.cesu8_decode.proofs.by_offset.FirstWidths.{ascii_forms}
 use Rattle.cesu8_text.proofs.text.Shapes.{Shape, one, two, three, pair, shape}
 
--- A byte may be one of a character behind the first,
+-- The byte can be a later byte of a character: a continuation byte, or ED.
 abbrev pub MayBeLater : ℕ → Type 0
 MayBeLater b = IsContinuation b ⊎ (b ≡ 0xED)
 
--- and so may each.
+-- Each byte can be a later byte of a character.
 MayAllBe : List ℕ → Type 0
 MayAllBe [] = ⊤
 MayAllBe (b ∷ bytes) = MayBeLater b × MayAllBe bytes
@@ -26,7 +26,7 @@ each_may [] rest k all less = absurd (omega arith)
 each_may (b ∷ bytes) rest zero all less = all.0
 each_may (b ∷ bytes) rest (suc k) all less = each_may bytes rest k all.1 (omega (arith, less))
 
--- So it is with those of a character.
+-- Every byte of an encoded character except the first can be a later byte.
 later_byte : (f : Flavor) (c : ℕ) (rest : List ℕ) (k : ℕ) → Shape c → suc k < width f c → MayBeLater (get_or (encoding f (c ∷ []) ++ rest) (suc k) 0)
 unfolding MayAllBe
 later_byte f c rest k (one ascii) less =
@@ -45,7 +45,7 @@ later_byte f c rest k (pair w x y z digits) less =
     let all : MayAllBe later = grind arith in
     rw is (each_may later rest k all (omega (arith, less, ap length is)))
 
--- None crosses the boundary before another byte.
+-- No character crosses the offset before a byte that cannot be a later byte.
 pub none_crosses_shown : (f : Flavor) (bytes : List ℕ) (n : ℕ) → n < length bytes → ¬ (MayBeLater (get_or bytes n 0)) →
     NoneCrosses f (take n bytes) (drop n bytes)
 none_crosses_shown f bytes n inside other i c stands begins =

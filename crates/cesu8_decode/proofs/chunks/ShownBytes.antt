@@ -1,4 +1,4 @@
--- What two bytes show of each other, and what that says of them.
+-- The class of two adjacent bytes, and what it says about them.
 use Rattle.std.proofs.Common.{◌≡◌, ℕ, ◌<◌, ◌≤◌, ◌⊎◌, inl, inr, Bool, true, false, ◌&&◌, not, cond, eqb, leb, ltb, ⊎_elim, arith}
 use Rattle.std.proofs.lemmas.Bool.{cases_lt, le-leb, le-ltb}
 use Rattle.std.proofs.lemmas.Bool.Decides.{nat_tests}
@@ -8,7 +8,7 @@ use Rattle.cesu8_bytes.specs.Pairs.{null_at}
 use Rattle.cesu8_decode.specs.DecodedOffsets.{continues}
 use Rattle.cesu8_decode.specs.Following.{CharacterSet, has_changed, first_low, shown}
 
--- Byte b begins a character behind byte a, which leads none.
+-- Byte b begins a character after byte a, which is no lead byte.
 pub record Begins (f : Flavor) (a b : ℕ) : Type 0 where
   pub behind : a < 0xC0
   pub no_continuation : continues b ≡ false
@@ -24,7 +24,7 @@ pub record IsSecond (s : CharacterSet) (f : Flavor) (a b : ℕ) : Type 0 where
   pub no_overlong : (eqb a 0xE0 && ltb b 0xA0) ≡ false
   pub no_low : (eqb a 0xED && leb (first_low s) b) ≡ false
 
--- what is shown, by the tests one after another
+-- The class as the result of the tests in order.
 abbrev shown_by : (nul above on led ascii behind c0 long c1 overlong low : Bool) → ℕ
 shown_by nul above on led ascii behind c0 long c1 overlong low =
     cond nul 0xFF (cond above 0x40 (cond (not on) (cond led 0x01 0) (cond ascii 0x02 (cond behind 0x80
@@ -45,7 +45,8 @@ tests s f a b =
     by_tests (is_null f b) (leb 0xF0 a) (continues b) (leb 0xC0 a) (ltb a 0x80) (ltb a 0xC0) (eqb a 0xC0) (has_changed s && null_at f 0xC0 b)
     (eqb a 0xC1) (eqb a 0xE0 && ltb b 0xA0) (eqb a 0xED && leb (first_low s) b)
 
--- Behind a byte below C0 a byte that shows nothing begins a character, and else it is the second of one,
+-- A byte of class 0 after a lead byte is a second byte, and after any other byte it begins a
+-- character.
 second : (s : CharacterSet) (f : Flavor) (a b : ℕ) → 0xC0 ≤ a → shown s f a b ≡ 0 → IsSecond s f a b
 second s f a b leads is = let found = (tests s f a b).1 is (le-leb 0xC0 a leads) (le-ltb a 0xC0 leads) in grind (arith, nat_tests)
 
@@ -54,11 +55,11 @@ unfolding shown
 if_nothing s f a b is =
     ⊎_elim (λ (behind : a < 0xC0). inl (grind (arith, nat_tests))) (λ (leads : 0xC0 ≤ a). inr (second s f a b leads is)) (cases_lt a 0xC0)
 
--- goes on with one where it shows the third,
+-- A byte of class 80 is a continuation byte.
 pub if_third : (s : CharacterSet) (f : Flavor) (a b : ℕ) → shown s f a b ≡ 0x80 → continues b ≡ true
 unfolding shown
 if_third s f a b is = grind (arith, nat_tests)
 
--- and is second of a low surrogate where it shows that.
+-- A byte of class 20 is the second byte of a low surrogate.
 pub if_low : (s : CharacterSet) (f : Flavor) (a b : ℕ) → shown s f a b ≡ 0x20 → (a ≡ 0xED) × (first_low s ≤ b) × (continues b ≡ true)
 if_low s f a b is = let found = (tests s f a b).0 is in grind (arith, nat_tests)

@@ -1,4 +1,4 @@
--- What a call may say of a text that it writes into a caller's buffer.
+-- What a call that writes a text to a caller's slice can promise.
 use Rattle.std.proofs.lemmas.Bool.Decides.{nat_tests}
 use Rattle.std.proofs.Common.{[], ◌≡◌, ℕ, ◌^◌, ◌<◌, ◌≤◌, ◌↔◌, List, refl, sym, ap, ◌∙◌, subst, arith, length, Result, Ok, Err, MatchResult, IsErr, IsErrAnd}
 use Rattle.std.proofs.lemmas.Bool.{false≢true}
@@ -23,13 +23,13 @@ use Rattle.cesu8_decode.proofs.chunks.ReadChunks.{IsDecodedText, chunk_utf8, who
 
 -- ---- the only text
 
--- The bytes are read as this text and as no other, and the answer is its UTF-8.
+-- The bytes have this text and no other, and the answer is its UTF-8.
 pub record IsOnlyText (IsReading : List ℕ → Type 0) (text answer : List ℕ) : Type 0 where
   pub reads : IsReading text
   pub only : (other : List ℕ) → IsReading other → other ≡ text
   pub utf8_is : utf8 text ≡ answer
 
--- So what is known of a text's length is known of the answer's, and the other way round.
+-- What is known of the length of the text is known of the length of the answer, and conversely.
 at_length : (IsReading : List ℕ → Type 0) (F : ℕ → Type 0) (text answer : List ℕ) → IsOnlyText IsReading text answer →
     ReadsAtLength IsReading F → F (length answer)
 at_length IsReading F text answer is found =
@@ -39,7 +39,7 @@ pub of_length : (IsReading : List ℕ → Type 0) (F : ℕ → Type 0) (text ans
     F (length answer) → ReadsAtLength IsReading F
 of_length IsReading F text answer is holds = (text, is.reads, subst (λ t. F (length t)) (sym is.utf8_is) holds)
 
--- That of bytes that are well-formed;
+-- The strict reading is the only text.
 pub only_strict : (f : Flavor) (bytes text : List ℕ) → IsStrictReading f bytes text → IsOnlyText (IsStrictReading f bytes) text (utf8 text)
 only_strict f bytes text reads = record {
   reads = reads;
@@ -47,7 +47,7 @@ only_strict f bytes text reads = record {
   utf8_is = refl;
 }
 
--- that of bytes that are decoded, or are a chunk.
+-- The text of decoded bytes, or of a chunk that is all of them, is the only text.
 pub only_decoded : (f : Flavor) (which : Strictness) (bytes text : List ℕ) → IsDecodedText f which bytes text →
     IsOnlyText (IsReadingOf f which bytes) text (utf8 text)
 only_decoded f Strict bytes text is = only_strict f bytes text (is.0, is.2 refl)
@@ -64,42 +64,43 @@ pub strict_no_longer : (f : Flavor) (bytes : List ℕ) → IsStrictReading f byt
 unfolding lossy_length
 strict_no_longer f bytes reads = omega (arith, (length_bounds f (reading f bytes) reads.0).low, ap length reads.1)
 
--- That of bytes of which none is refused is their reading,
+-- If strict decoding rejects no byte, the lossy reading is the only text.
 pub only_reading : (f : Flavor) (which : Strictness) (bytes : List ℕ) → (which ≡ Strict → IsStrictReading f bytes (reading f bytes)) →
     IsOnlyText (IsReadingOf f which bytes) (reading f bytes) (utf8 (reading f bytes))
 only_reading f Strict bytes whole = only_strict f bytes (reading f bytes) (whole refl)
 only_reading f Lossy bytes whole = record { reads = refl; only = λ other same. same; utf8_is = refl }
 
--- and that of bytes that a call keeps is of their characters.
+-- If a call returns its input unchanged, the characters of the input are the only text.
 module _ (f : Flavor) (bytes : List ℕ) (keeps : Type 0) (reads reads_lossily : List ℕ → Type 0) (known : KnowsTexts f bytes keeps reads reads_lossily) where
   pub only_kept : (which : Strictness) → keeps → IsOnlyText (ReadsAs which reads reads_lossily) (chars bytes) bytes
   only_kept which kept = grind (arith, IsUtf8Of_chars)
 
--- ---- where it is written or not
+-- ---- the text is written or not
 
--- In strict reading the input has no text.
+-- In strict decoding the input has no text.
 pub no_strict_text : (f : Flavor) (which : Strictness) (bytes buf : List ℕ) → (which ≡ Strict) × HasNoStrictReading f bytes →
     PutsText which (IsReadingOf f which bytes) (Err unwritten.NoText) buf buf
 no_strict_text f which bytes buf refused = grind (arith, nat_tests)
 
 module _ (which : Strictness) (IsReading : List ℕ → Type 0) (text answer buf : List ℕ) (is : IsOnlyText IsReading text answer) (small : length answer < 2 ^ 64) where
-  -- The answer is written to a buffer that is long enough,
+  -- The answer is written to a slice that is long enough.
   pub answer_put : (len : ℕ) (new : List ℕ) → length answer ≤ length buf → StandsAtFront answer len buf new → PutsText which IsReading (Ok len) buf new
   answer_put len new room stands = grind (arith, nat_tests)
 
-  -- and its length is returned if the buffer is shorter.
+  -- The length of the answer is returned if the slice is too short.
   pub room_lacks : (no_room : NoRoom) → no_room.needed ≡ length answer → length buf < length answer →
       PutsText which IsReading (Err (unwritten.NoRoom no_room)) buf buf
   room_lacks no_room needed short = grind (arith, nat_tests)
 
--- One of both is told of a copy of the answer.
+-- A copy of the answer to the slice keeps the promise: it succeeds, or reports that the slice is
+-- too short.
 text_put : (which : Strictness) (IsReading : List ℕ → Type 0) (text answer : List ℕ) (r : Result ℕ NoRoom) (told : Result ℕ Unwritten) (old new : List ℕ) →
     IsOnlyText IsReading text answer → length answer < 2 ^ 64 →
     MatchResult r (λ len. told ≡ Ok len) (λ fault. IsErrAnd told (λ d. d ≡ unwritten.NoRoom fault)) →
     PutsAnswer answer r old new → PutsText which IsReading told old new
 text_put which IsReading text answer r told old new is small told_is puts = grind (arith, nat_tests)
 
--- So it is of bytes that a call keeps,
+-- If a call returns its input unchanged, a copy of it to the slice keeps the promise.
 pub kept_put : (f : Flavor) (bytes : List ℕ) (keeps : Type 0) (reads reads_lossily : List ℕ → Type 0) → KnowsTexts f bytes keeps reads reads_lossily →
     (which : Strictness) → keeps → (r : Result ℕ NoRoom) (told : Result ℕ Unwritten) (old new : List ℕ) → length bytes < 2 ^ 64 →
     MatchResult r (λ len. told ≡ Ok len) (λ fault. IsErrAnd told (λ d. d ≡ unwritten.NoRoom fault)) →
@@ -108,7 +109,7 @@ kept_put f bytes keeps reads reads_lossily known which kept r told old new small
     text_put which (ReadsAs which reads reads_lossily) (chars bytes) bytes r told old new
     (only_kept f bytes keeps reads reads_lossily known which kept) small told_is puts
 
--- and of those of which all were decoded.
+-- If the input was decoded to the end, a copy of the text to the slice keeps the promise.
 pub decoded_put : (f : Flavor) (which : Strictness) (bytes answer : List ℕ) (r : Result ℕ NoRoom) (told : Result ℕ Unwritten) (old new : List ℕ) →
     IsChunk f which bytes [] answer → length answer < 2 ^ 64 →
     MatchResult r (λ len. told ≡ Ok len) (λ fault. IsErrAnd told (λ d. d ≡ unwritten.NoRoom fault)) →
@@ -116,7 +117,7 @@ pub decoded_put : (f : Flavor) (which : Strictness) (bytes answer : List ℕ) (r
 decoded_put f which bytes answer r told old new read small told_is puts =
     text_put which (IsReadingOf f which bytes) (chars answer) answer r told old new (only_chunk f which bytes answer read) small told_is puts
 
--- No `usize` is its length, so that it fits into no buffer.
+-- If the length does not fit `usize`, the text fits no slice.
 pub length_lacks : (f : Flavor) (which : Strictness) (bytes buf : List ℕ) → (which ≡ Strict → IsStrictReading f bytes (reading f bytes)) →
     length bytes < 2 ^ 64 → length buf < 2 ^ 64 → 2 ^ 64 ≤ lossy_length f bytes → PutsText which (IsReadingOf f which bytes) (Err unwritten.TooLong) buf buf
 unfolding lossy_length
@@ -137,12 +138,12 @@ length_lacks f Lossy bytes buf whole few small long =
       lossy = λ _. refl;
     }
 
--- What is said by one reading is said by another that has the same texts.
+-- What is promised for one set of texts is promised for an equal one.
 pub same_reading : (P Q : List ℕ → Type 0) → ((text : List ℕ) → Q text ↔ P text) → (which : Strictness) (r : Result ℕ Unwritten) (old new : List ℕ) →
     PutsText which P r old new → PutsText which Q r old new
 same_reading P Q same which r old new puts = grind (arith, nat_tests)
 
--- So is the fault that `?` returns.
+-- The error that `?` passes on keeps its promise.
 pub same_fault : (P Q : List ℕ → Type 0) → ((text : List ℕ) → Q text ↔ P text) → (which : Strictness) (fault : Unwritten) (r : Result ℕ Unwritten) (old new : List ℕ) →
     IsErr r × IsErrAnd r (λ other. other ≡ fault) → PutsText which P (Err fault) old new → PutsText which Q r old new
 same_fault P Q same which fault (Ok n) old new is puts = absurd is.1

@@ -1,4 +1,4 @@
--- Text that a vector has.
+-- The text that a vector holds.
 use Rattle.std.proofs.Common.{◌≡◌, ◌∙◌, sym, ap, arith, ℕ, ◌+◌, List, [], ◌++◌, length, length-append, append-nil, Vec, vec_capacity, Result, Ok, IfOk}
 use Rattle.std.proofs.lemmas.Bool.Decides.{nat_tests}
 use Rattle.cesu8_text.specs.Encoding.{Flavor}
@@ -13,23 +13,25 @@ use Rattle.cesu8_decode.specs.Decoding.{AppendsReading, BuildsReading}
 use Rattle.cesu8_decode.proofs.by_offset.IllFormed.{IsChunk}
 use Rattle.cesu8_decode.proofs.chunks.ReadChunks.{lossy_text_length, more_read}
 
--- A copy of the lossy reading is built.
+-- A copy of the lossy reading is a built text.
 pub built : {Z E : Type 0} (f : Flavor) (bytes answer : List ℕ) (result : Result (Vec ℕ Z) E) → IsChunk f Lossy bytes [] answer →
     IfOk result (λ copied. copied.items ≡ answer) → IfOk result (λ copied. vec_capacity copied ≡ length answer) → BuildsReading f bytes result
 built f bytes answer result is same long = grind arith
 
--- The reading of the first bytes is read of all of them, where no character crosses their end.
+-- If no character crosses the end of the first bytes, their lossy reading is that of all bytes up
+-- to there.
 read_apart : (f : Flavor) (bytes first rest text : List ℕ) → first ++ rest ≡ bytes → NoneCrosses f first rest → IsChunk f Lossy first [] text →
     IsChunk f Lossy bytes rest text
 read_apart f bytes first rest text whole apart read = grind (arith, nat_tests, split, reading_nil, append-nil)
 
--- What is appended has the length of its reading.
+-- The appended bytes have the length of the lossy reading.
 appended_length : (f : Flavor) (bytes old new : List ℕ) → IsReadSoFar f Lossy bytes [] old new → length new ≡ length old + lossy_length f bytes
 appended_length f bytes old new read =
     let chunk : IsChunk f Lossy bytes [] (utf8 read.text) = grind arith in
     ap length read.written ∙ length-append old (utf8 read.text) ∙ ap (λ n. length old + n) (sym (lossy_text_length f bytes (utf8 read.text) chunk))
 
--- The whole is built where the rest is appended to that, in a vector with capacity for both.
+-- If the text of the rest is appended to that of the first bytes, in a vector with capacity for
+-- both, the whole text is built.
 pub built_behind : {Z E X : Type 0} (f : Flavor) (bytes first rest : List ℕ) (before text : Vec ℕ Z) → first ++ rest ≡ bytes →
     NoneCrosses f first rest → IsChunk f Lossy first [] before.items → vec_capacity before ≡ length before.items + lossy_length f rest →
     AppendsReading {E = E} f Lossy rest before (Ok text) → BuildsReading {E = X} f bytes (Ok text)

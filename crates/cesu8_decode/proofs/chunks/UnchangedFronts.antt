@@ -1,4 +1,4 @@
--- Characters at the front that are the same in UTF-8, and what stops them.
+-- The unchanged prefix: UTF-8 in which nothing needs conversion, and what comes after it.
 use Rattle.std.proofs.Common.{◌≡◌, ℕ, ◌+◌, ◌/◌, ◌<◌, ◌↔◌, List, [], ◌∷◌, ◌++◌, refl, sym, ap, ◌∙◌, subst, arith, add-zero, length, get_or, take, drop, length-drop}
 use Rattle.std.specs.Str.{chars, IsUtf8}
 use Rattle.std.proofs.lemmas.Bool.Decides.{nat_tests}
@@ -24,7 +24,7 @@ use Rattle.cesu8_decode.proofs.chunks.Fronts.{all_front, front_of_all, more_behi
 
 -- ---- bytes
 
--- UTF-8 in which nothing changes is whole characters of each set that are encoded,
+-- UTF-8 in which nothing needs conversion is whole unchanged characters.
 unchanged_whole : (f : Flavor) (bytes : List ℕ) → IsUnchangedUtf8 f bytes → AreWhole Unchanged f bytes
 unchanged_whole f bytes unchanged = record {
   text = chars bytes;
@@ -32,12 +32,12 @@ unchanged_whole f bytes unchanged = record {
   inside = λ needs. unchanged.1 ((needs_by_bytes f bytes unchanged.0).1 needs);
 }
 
--- so all of it is their front,
+-- UTF-8 in which nothing needs conversion is its own valid prefix.
 pub unchanged_front : (f : Flavor) (bytes : List ℕ) → IsUnchangedUtf8 f bytes → IsFront Encoded f bytes (length bytes)
 unchanged_front f bytes unchanged =
     all_front Encoded f bytes (record { text = chars bytes; reads = unchanged_reading f bytes bytes refl unchanged; inside = none_outside _ (λ c none. none) (chars bytes) })
 
--- and whole characters that do not change are such UTF-8.
+-- Whole unchanged characters are the UTF-8 of their text.
 pub in_utf8 : (f : Flavor) (bytes : List ℕ) → (whole : AreWhole Unchanged f bytes) → utf8 whole.text ≡ bytes
 in_utf8 f bytes whole = sym (encoding_same f whole.text whole.reads.0 whole.inside) ∙ whole.reads.1
 
@@ -50,7 +50,7 @@ whole_unchanged f bytes whole =
 
 -- ---- characters
 
--- UTF-8 that begins with a character that changes begins with a byte that does.
+-- The UTF-8 of a character that needs conversion begins with a byte that does.
 first_changed : (f : Flavor) (c : ℕ) (rest : List ℕ) → Shape c → IsEncodedOtherwise f c → IsChangedByte f (get_or (utf8_of c ++ rest) 0 0)
 first_changed f c rest (one ascii) needs = grind (arith, nat_tests, utf8_of_one)
 first_changed f c rest (two x y digits) needs = absurd (not_otherwise f c (omega arith) (omega arith) needs)
@@ -58,20 +58,20 @@ first_changed f c rest (three x y z digits) needs = absurd (not_otherwise f c (o
 first_changed f c rest (pair w x y z digits) needs =
     rw (utf8_of_pair c w x y z digits) (changed_by_four f _ (four_from (0xF0 + (w + 1) / 4) (omega arith) (omega arith)))
 
--- ---- fronts
+-- ---- prefixes
 
--- That of unchanged characters is UTF-8 in which nothing changes,
+-- The unchanged prefix is UTF-8 in which nothing needs conversion.
 module _ (f : Flavor) (bytes : List ℕ) (n : ℕ) (front : IsFront Unchanged f bytes n) where
   pub front_unchanged : IsUnchangedUtf8 f (take n bytes)
   front_unchanged = whole_unchanged f (take n bytes) front.whole
 
-  -- and is of all bytes exactly if they are.
+  -- The unchanged prefix is all bytes exactly if they are UTF-8 in which nothing needs conversion.
   pub all_unchanged : (n ≡ length bytes) ↔ IsUnchangedUtf8 f bytes
   all_unchanged =
       let of_all = front_of_all Unchanged f bytes n front in
       (λ all. whole_unchanged f bytes (of_all.0 all), λ unchanged. of_all.1 (unchanged_whole f bytes unchanged))
 
-  -- If all bytes are UTF-8, those behind it are too,
+  -- If all bytes are UTF-8, the bytes after the prefix are UTF-8 too.
   rest_utf8 : IsUtf8 bytes → IsUtf8 (drop n bytes)
   rest_utf8 is_utf8 = IsUtf8-drop bytes n is_utf8 (IsCharBoundary-from_take bytes n is_utf8 front.within front_unchanged.0)
 
@@ -84,19 +84,20 @@ module _ (f : Flavor) (bytes : List ℕ) (n : ℕ) (front : IsFront Unchanged f 
           absurd (none_behind Unchanged f bytes n front c (utf8 text) stays (record { scalar = is_text.0; bytes_are = sym are ∙ ap (λ bs. bs ++ utf8 text) (sym encoded) }))
       by_first (longer needs _ _) = subst (λ bs. IsChangedByte f (get_or bs 0 0)) are (first_changed f c (utf8 text) (shape c is_text.0) needs)
 
-  -- They begin with a byte that changes.
+  -- If all bytes are UTF-8, the bytes after the prefix begin with a byte that needs conversion.
   pub changed_behind : n < length bytes → IsUtf8 bytes → IsChangedByte f (get_or bytes n 0)
   changed_behind more is_utf8 =
       let rest = IsUtf8Of_chars (drop n bytes) (rest_utf8 is_utf8) in
       subst (IsChangedByte f) (get_or-drop n bytes 0 0 ∙ ap (λ k. get_or bytes k 0) (add-zero n)) (by_text (chars (drop n bytes)) rest.0 rest.1 more)
 
-  -- It is a chunk of the text, as it stands.
+  -- The prefix is a chunk of the text.
   pub unchanged_front_chunk : (which : Strictness) → IsChunk f which bytes (drop n bytes) (take n bytes)
   unchanged_front_chunk which =
       subst (IsChunk f which bytes (drop n bytes)) (in_utf8 f (take n bytes) front.whole)
       (chunk_of_text f which bytes front.whole.text (drop n bytes) front.whole.reads.0 (bytes_are Unchanged f bytes n front))
 
-  -- No character that stays begins behind it, so none does at all if none does that is encoded otherwise,
+  -- No unchanged character begins after the prefix. So if no character that needs conversion begins
+  -- there, none does at all.
   module _ (no_change : (c : ℕ) (rest : List ℕ) → IsEncodedOtherwise f c → ¬ (BeginsWith f (drop n bytes) c rest)) where
     by_change : (c : ℕ) (rest : List ℕ) → BeginsWith f (drop n bytes) c rest → Change f c → ⊥
     by_change c rest begins (same stays _) = none_behind Unchanged f bytes n front c rest stays begins
@@ -105,15 +106,16 @@ module _ (f : Flavor) (bytes : List ℕ) (n : ℕ) (front : IsFront Unchanged f 
     pub none_unless_changed : NoneBegins f (drop n bytes)
     none_unless_changed c rest begins = by_change c rest begins (change f c begins.scalar)
 
-    -- and bytes with more have no strict reading.
+    -- If no character begins after the prefix, and bytes are left, there is no strict reading.
     pub no_strict_reading : n < length bytes → HasNoStrictReading f bytes
     no_strict_reading more =
         no_reading f bytes front.whole.text (drop n bytes) front.whole.reads.0 (bytes_are Unchanged f bytes n front)
         (omega (arith, length-drop n bytes)) none_unless_changed
 
--- ---- what a call keeps
+-- ---- input that is returned unchanged
 
--- It is all that a call has to know of the bytes, unless they are kept for another reason,
+-- The prefix decides whether a call returns its input unchanged, unless there is another reason to
+-- return it.
 pub found_unless_kept : (f : Flavor) (are_kept : Type 0) (bytes : List ℕ) (front : FoundFront) → IsFrontOf f bytes front →
     (IsUnchangedUtf8 f bytes → are_kept) → (are_kept → front.len ≡ length bytes) → IsFrontUnlessKept f are_kept bytes front
 found_unless_kept f are_kept bytes front found stays only = record {
@@ -121,7 +123,7 @@ found_unless_kept f are_kept bytes front found stays only = record {
   front = λ other. record { found = found; more = more_behind Unchanged f bytes front.len found.len other };
 }
 
--- and then all bytes stand for it.
+-- If a call returns its input unchanged, the front is all bytes.
 pub all_kept : (f : Flavor) (are_kept : Type 0) (bytes : List ℕ) (front : FoundFront) → front.len ≡ length bytes → are_kept →
     IsFrontUnlessKept f are_kept bytes front
 all_kept f are_kept bytes front all is = record { kept = (λ _. is, λ _. all); front = λ other. absurd (other all) }

@@ -1,4 +1,4 @@
--- UTF-8 that is cut between two characters, and UTF-8 with zeros after it.
+-- UTF-8 that is divided between two characters, and UTF-8 with zeros after it.
 use Rattle.std.proofs.Common.{◌≡◌, ℕ, ◌+◌, ◌-◌, ◌<◌, ◌≤◌, ◌↔◌, ◌⊎◌, ◌∙◌, ⊎_elim, List, [], ◌∷◌, ◌++◌, arith, get_or, length, length-append, replicate, subst, sym, take, drop}
 use Rattle.std.specs.Str.{IsUtf8, IsCharBoundary, chars}
 use Rattle.std.proofs.Math.Seq.{take-append_seam}
@@ -11,7 +11,7 @@ use Rattle.cesu8_text.specs.Text.{IsText, utf8_of, utf8}
 use Rattle.cesu8_text.proofs.StdUtf8.{IsUtf8Of_chars, IsUtf8_utf8}
 use Rattle.cesu8_bytes.proofs.vectors.Loads.{padded, zeros_at}
 
--- Zeros after bytes decide nothing.
+-- Zeros after bytes have no influence on whether they are UTF-8.
 pub with_zeros : (bytes : List ℕ) (n : ℕ) → IsUtf8 (bytes ++ replicate n 0) ↔ IsUtf8 bytes
 with_zeros bytes n =
     let zeros = replicate {A = ℕ} n 0 in
@@ -21,22 +21,23 @@ with_zeros bytes n =
       λ is_utf8. IsUtf8-append bytes zeros is_utf8 (IsUtf8-from_ascii zeros (λ i. omega (arith, zeros_at n i))),
     )
 
--- Bytes that end a part between two characters, if they are UTF-8, are that exactly if the part and the rest are.
+-- If UTF-8 would have a character boundary at the end of a part, the bytes are UTF-8 exactly if the
+-- part and the rest are.
 pub both_parts : (bytes : List ℕ) (n : ℕ) → (IsUtf8 bytes → IsCharBoundary bytes n) → IsUtf8 bytes ↔ (IsUtf8 (take n bytes) × IsUtf8 (drop n bytes))
 both_parts bytes n boundary = (
   λ whole. (IsUtf8-take bytes n whole (boundary whole), IsUtf8-drop bytes n whole (boundary whole)),
   λ parts. subst IsUtf8 (take-append-drop n bytes) (IsUtf8-append (take n bytes) (drop n bytes) parts.0 parts.1),
 )
 
--- After UTF-8, bytes are UTF-8 exactly if all are.
+-- After a part that is UTF-8, the rest is UTF-8 exactly if all bytes are.
 pub after_utf8 : (bytes : List ℕ) (n : ℕ) → n ≤ length bytes → IsUtf8 (take n bytes) → IsUtf8 (drop n bytes) ↔ IsUtf8 bytes
 after_utf8 bytes n within front =
     let same = both_parts bytes n (λ whole. IsCharBoundary-from_take bytes n whole within front) in
     (λ rest. same.1 (front, rest), λ whole. (same.0 whole).1)
 
--- ---- where a part may end
+-- ---- the end of a part
 
--- A text's UTF-8 begins with no continuation byte,
+-- UTF-8 does not begin with a continuation byte.
 begins : (text : List ℕ) → IsText text → ¬ (IsContinuation (get_or (utf8 text) 0 0))
 begins text is_text continues =
     ⊎_elim (λ (some : 0 < length (utf8 text)). absurd (omega (arith, (IsCharBoundary-start (utf8 text) (IsUtf8_utf8 text is_text)).1 some continues.0, continues)))
@@ -47,7 +48,7 @@ at_most_four : (c : ℕ) → length (utf8_of c) ≤ 4
 unfolding utf8_of
 at_most_four c = grind (arith, nat_tests)
 
--- so no four of them follow each other in it.
+-- Four continuation bytes in a row are not UTF-8.
 abbrev FourContinue : List ℕ → ℕ → Type 0
 FourContinue bytes i = (k : ℕ) → i ≤ k → k ≤ i + 3 → IsContinuation (get_or bytes k 0)
 
@@ -64,7 +65,8 @@ no_four (c ∷ text) is_text i four =
     (λ (past : n ≤ i). no_four text is_text.1 (i - n) (λ k low high. behind k (omega (arith, low, past)) (omega (arith, high, past))))
     (cases_lt i n)
 
--- Before continuation bytes alone, and at most three of them, a character of UTF-8 begins.
+-- In UTF-8, the offset that is reached by going back over at most three continuation bytes is a
+-- character boundary.
 pub start_is_boundary : (bytes : List ℕ) (at back : ℕ) → at < length bytes → 3 ≤ at → back ≤ 3 →
     ((k : ℕ) → k < back → IsContinuation (get_or bytes (at - k) 0)) → (¬ (IsContinuation (get_or bytes (at - back) 0))) ⊎ (back ≡ 3) →
     IsUtf8 bytes → IsCharBoundary bytes (at - back)

@@ -18,21 +18,21 @@ use Rattle.cesu8_decode.specs.Front.{AreWhole, IsOutside}
 pub null_otherwise : (f : Flavor) (c : ℕ) → is_null f c ≡ true → IsEncodedOtherwise f c
 null_otherwise f c null = grind (arith, nat_tests)
 
--- A character that is encoded as in UTF-8 is in each set.
+-- A character whose encoding is its UTF-8 is in both sets.
 inside_each : (s : CharacterSet) (f : Flavor) (c : ℕ) → ¬ (IsEncodedOtherwise f c) → ¬ (IsOutside s f c)
 inside_each s f c usual outside = grind (arith, null_otherwise)
 
--- No text has what nothing is.
+-- If no scalar value is outside, no text has one that is.
 pub none_outside : (P : ℕ → Type 0) → ((c : ℕ) → ¬ (P c)) → (text : List ℕ) → ¬ (Any P text)
 none_outside P none text any = none any.1 any.4
 
 -- ---- parts
 
--- No bytes are whole characters,
+-- The empty list is whole characters.
 pub none_whole : (s : CharacterSet) (f : Flavor) → AreWhole s f []
 none_whole s f = record { text = []; reads = (tt, encoding_nil f); inside = any_nil _ }
 
--- and so are those of a character,
+-- The encoding of one character of the set is whole characters.
 pub character_whole : (s : CharacterSet) (f : Flavor) (c : ℕ) → IsScalarValue c → ¬ (IsOutside s f c) → AreWhole s f (encoding f (c ∷ []))
 character_whole s f c scalar inside = record {
   text = c ∷ [];
@@ -40,7 +40,7 @@ character_whole s f c scalar inside = record {
   inside = none_cons (IsOutside s f) c [] inside (any_nil _);
 }
 
--- and those of both parts.
+-- If two parts are whole characters, so are both together.
 pub parts_whole : (s : CharacterSet) (f : Flavor) (front back : List ℕ) → AreWhole s f front → AreWhole s f back → AreWhole s f (front ++ back)
 parts_whole s f front back first last = record {
   text = first.text ++ last.text;
@@ -59,14 +59,15 @@ begun_whole s f bytes rest c scalar inside are whole =
     subst (AreWhole s f) (sym are) (parts_whole s f (encoding f (c ∷ [])) rest (character_whole s f c scalar inside) whole)
 
 module _ (f : Flavor) (bytes : List ℕ) (m n : ℕ) (found : BeginsInLengths f bytes m n) where
-  -- A character is the same in UTF-8 where it is as long there.
+  -- If a character is as long in UTF-8, it is in each set.
   same_whole : (s : CharacterSet) → m ≡ n → Change f found.character → AreWhole s f (drop m bytes) → AreWhole s f bytes
   same_whole s as_long (longer _ more _) rest = absurd (omega (arith, as_long, more, found.encoded, found.in_utf8))
   same_whole s as_long (same usual encoded) rest =
       begun_whole s f bytes found.rest found.character found.begins.scalar (inside_each s f found.character usual) found.begins.bytes_are
       (subst (AreWhole s f) (rest_is f bytes m n found) rest)
 
-  -- Bytes are whole that begin with a character and are whole behind it.
+  -- Bytes are whole characters if they begin with a character of the set and the rest is whole
+  -- characters.
   pub whole_with : (s : CharacterSet) → (has_changed s ≡ true) ⊎ (m ≡ n) → AreWhole s f (drop m bytes) → AreWhole s f bytes
   whole_with s (inr as_long) rest = same_whole s as_long (change f found.character found.begins.scalar) rest
   whole_with Unchanged (inl meant) rest = absurd (true≢false (sym meant))

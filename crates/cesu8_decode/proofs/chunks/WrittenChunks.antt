@@ -1,4 +1,4 @@
--- Text that is written into a slice a chunk at a time.
+-- Text that is written to a slice chunk by chunk.
 use Rattle.std.proofs.Common.{◌≡◌, ℕ, ◌≤◌, List, [], ◌++◌, refl, sym, ap, ◌∙◌, length, take, drop}
 use Rattle.std.proofs.lemmas.List.{take-append-drop, length-take-le}
 use Rattle.cesu8_text.specs.Text.{utf8}
@@ -9,7 +9,7 @@ use Rattle.cesu8_bytes.specs.declared.strictness.Strictness.TheVariants.{Lossy}
 use Rattle.cesu8_decode.proofs.by_offset.IllFormed.{IsChunk}
 use Rattle.cesu8_decode.proofs.chunks.ReadChunks.{all_read}
 
--- Where all bytes are read, their lossy reading stands at the front of the slice.
+-- If all bytes are decoded, their lossy reading is at the start of the slice.
 pub all_written : (f : Flavor) (bytes old new : List ℕ) (end : ℕ) → IsChunk f Lossy bytes [] (take end new) → end ≤ length new →
     drop end new ≡ drop end old → StandsAtFront (utf8 (reading f bytes)) end old new
 all_written f bytes old new end chunk inside behind =

@@ -1,4 +1,4 @@
--- What is written window by window, and what was read.
+-- What is written window by window, and what has been decoded then.
 use Rattle.std.proofs.lemmas.Bool.Decides.{nat_tests}
 use Rattle.std.proofs.lemmas.Grind.{common_steps}
 use Rattle.std.proofs.Common.{◌≡◌, ℕ, zero, suc, ◌+◌, ◌-◌, ◌<◌, ◌≤◌, ◌⊎◌, ⊎_elim, Bool, true, false, true≢false, List, [], ◌++◌, refl, sym, ap, ◌∙◌, arith, get_or, length, drop, replicate, zero-add, append_assoc}
@@ -32,7 +32,8 @@ one_or_none false b = omega arith
 at_most_three : (goes ill_formed : Bool) (b : ℕ) → length (written_for goes ill_formed b) ≤ 3
 at_most_three goes ill_formed b = grind (arith, nat_tests, common_steps)
 
--- Bytes become no more bytes where none is ill-formed, and else at most three for each.
+-- What is written for n bytes is at most n bytes if none of them is ill-formed, and otherwise at
+-- most three for each.
 pub no_longer : (f : Flavor) (which : Strictness) (window : List ℕ) (at n : ℕ) →
     (which ≡ Strict → (i : ℕ) → at ≤ i → i < at + n → is_ill_formed_at f window i ≡ false) → length (decoded f window at n) ≤ most_written which n
 unfolding decoded decoded_byte
@@ -56,14 +57,14 @@ no_longer f Lossy window at (suc n) fine =
       length-append (decoded_at f window at) (decoded f window (at + 1) n),
     )
 
--- That of more bytes may be written behind that of some.
+-- The greatest length for n + m bytes is that for n bytes and that for m bytes together.
 pub most_of_more : (which : Strictness) (n m : ℕ) → most_written which (n + m) ≡ most_written which n + most_written which m
 most_of_more Strict n m = refl
 most_of_more Lossy n m = omega arith
 
 -- ---- the last bytes
 
--- Bytes that are alike have windows that are alike.
+-- Bytes that agree have windows that agree.
 pub windows_alike : (a b : List ℕ) → ((k : ℕ) → get_or a k 0 ≡ get_or b k 0) → (j : ℕ) → get_or (window_of a) j 0 ≡ get_or (window_of b) j 0
 windows_alike a b alike zero = refl
 windows_alike a b alike (suc zero) = refl
@@ -72,8 +73,8 @@ windows_alike a b alike (suc (suc (suc zero))) = refl
 windows_alike a b alike (suc (suc (suc (suc zero)))) = refl
 windows_alike a b alike (suc (suc (suc (suc (suc k))))) = alike k
 
--- The window on the last bytes, with zeros after them, agrees with that on all of them from an offset
--- on, if it has the five bytes before that offset, or all.
+-- The window of the last bytes, with zeros after them, agrees with the window of all bytes from an
+-- offset on, if the copy includes the five bytes before that offset, or all bytes before it.
 pub last_agrees : (bytes last : List ℕ) (first at n : ℕ) → ((k : ℕ) → get_or last k 0 ≡ get_or bytes (first + k) 0) →
     first ≤ at → (first ≡ 0) ⊎ (first + 5 ≤ at) → Agree (window_of last) (window_of bytes) (at - first) at n
 last_agrees bytes last first at n are inside either k small =
@@ -90,7 +91,7 @@ last_agrees bytes last first at n are inside either k small =
     ∙ ap (λ i. get_or bytes i 0) same ∙ sym (follows_zeros bytes (at + k - 5)) ∙ sym (ap (λ j. get_or (window_of bytes) j 0) there))
     either
 
--- From where the bytes end on it has zeros.
+-- After the end of the bytes the copy has zeros.
 pub last_zeros : (bytes last : List ℕ) (first i : ℕ) → ((k : ℕ) → get_or last k 0 ≡ get_or bytes (first + k) 0) → length bytes ≤ first + i →
     get_or last i 0 ≡ 0
 last_zeros bytes last first i are beyond = are i ∙ get_or_past bytes (first + i) 0 beyond
@@ -107,7 +108,7 @@ copied_to_zeros bytes last first m zeros is copied k =
 
 -- ---- what is written
 
--- What more bytes become is written after what the first ones become.
+-- What is written for more bytes is appended to what is written for the first ones.
 more_written : (f : Flavor) (window before old new : List ℕ) (at len : ℕ) → old ≡ before ++ decoded f window 0 at →
     new ≡ old ++ decoded f window at len → new ≡ before ++ decoded f window 0 (at + len)
 more_written f window before old new at len old_is new_is =
@@ -119,13 +120,13 @@ pub none_decoded : (f : Flavor) (which : Strictness) (window before : List ℕ) 
 unfolding decoded
 none_decoded f which window before = grind (arith, nat_tests, common_steps)
 
--- What more bytes become adds to what the first ones do.
+-- What is written for the next n bytes continues what is written for the first ones.
 pub more_decoded : (f : Flavor) (which : Strictness) (window before old text : List ℕ) (at n : ℕ) (is_refused : Bool) →
     IsDecoded f which window 0 at before old false → IsDecoded f which window at n old text is_refused →
     IsDecoded f which window 0 (at + n) before text is_refused
 more_decoded f which window before old text at n is_refused first next = grind (arith, nat_tests, more_written, cases_lt)
 
--- It rests on ten bytes more.
+-- What is written for n bytes depends on ten bytes more.
 pub decoded_in : (f : Flavor) (which : Strictness) (a b before text : List ℕ) (i j n : ℕ) (is_refused : Bool) → Agree a b i j (n + 10) →
     IsDecoded f which a i n before text is_refused → IsDecoded f which b j n before text is_refused
 decoded_in f which a b before text i j n is_refused agree is = record {
@@ -147,20 +148,20 @@ decoded_in f which a b before text i j n is_refused agree is = record {
     same : (s : ℕ) → s < n → is_ill_formed_at f a (i + s) ≡ is_ill_formed_at f b (j + s)
     same s small = ill_formed_agrees f a b (i + s) (j + s) (agree_later a b i j (n + 10) s 11 (omega arith) agree)
 
--- What the bytes become is written where none of them is refused,
+-- If no byte is rejected, what decoding gives for the bytes is written.
 pub writes_decoded : (f : Flavor) (which : Strictness) (window bytes old new : List ℕ) (at n end new_end : ℕ) (is_refused : Bool) →
     bytes ≡ decoded f window at n → (which ≡ Strict → (i : ℕ) → at ≤ i → i < at + n → is_ill_formed_at f window i ≡ false) →
     is_refused ≡ false → WritesAt bytes end old new new_end → WritesDecoded f which window at n end old new new_end is_refused
 writes_decoded f which window bytes old new at n end new_end is_refused is fine none writes = grind (arith, nat_tests, no_longer)
 
--- and nothing where strict reading refuses one.
+-- If strict decoding rejects a byte, nothing is written.
 pub writes_none : (f : Flavor) (which : Strictness) (window old : List ℕ) (at n end : ℕ) → which ≡ Strict →
     (i : ℕ) × (at ≤ i) × (i < at + n) × (is_ill_formed_at f window i ≡ true) → WritesDecoded f which window at n end old old end true
 writes_none f which window old at n end strict found = grind (arith, nat_tests)
 
--- ---- what was read
+-- ---- what has been decoded
 
--- The text of all bytes is read where none of them is refused,
+-- If no byte was rejected, the text of all bytes is decoded.
 pub all_decoded : (f : Flavor) (which : Strictness) (bytes start text : List ℕ) (n : ℕ) → IsDecoded f which (window_of bytes) 0 n start text false →
     n ≡ length bytes → IsReadSoFar f which bytes [] start text
 all_decoded f which bytes start text n is all =
@@ -176,7 +177,7 @@ all_decoded f which bytes start text n is all =
     chunk Strict is = strict_chunk f bytes (window_of bytes) n padded (omega arith) boundary Strict (λ i small. is.strict refl refl i (omega arith) (omega arith))
     chunk Lossy is = lossy_chunk f bytes (window_of bytes) n padded (omega arith) boundary
 
--- as none is unless strict reading refuses it,
+-- If strict decoding rejects no byte, none is rejected.
 pub none_refused : (f : Flavor) (which : Strictness) (window old new : List ℕ) (at n : ℕ) (is_refused : Bool) →
     IsDecoded f which window at n old new is_refused → (which ≡ Strict → is_refused ≡ false) → is_refused ≡ false
 none_refused f Strict window old new at n is_refused is strict = strict refl
@@ -186,7 +187,7 @@ pub some_refused : (which : Strictness) (is_refused : Bool) → ¬ (which ≡ St
 some_refused which true some = refl
 some_refused which false some = absurd (some (λ _. refl))
 
--- and they have no strict reading where one is.
+-- If a byte was rejected, the bytes have no strict reading.
 pub refused_decoded : (f : Flavor) (which : Strictness) (bytes start text : List ℕ) (n : ℕ) → IsDecoded f which (window_of bytes) 0 n start text true →
     n ≤ length bytes → (which ≡ Strict) × HasNoStrictReading f bytes
 refused_decoded f Strict bytes start text n is inside =
@@ -194,7 +195,7 @@ refused_decoded f Strict bytes start text n is inside =
     (refl, fault_of_whole f bytes (fault_at f bytes (window_of bytes) n (padded_for bytes (window_of bytes) n (λ k. refl)) inside found.0 (omega (arith, found.2)) found.3))
 refused_decoded f Lossy bytes start text n is inside = absurd (true≢false (is.lossy refl))
 
--- The text of some of them is no longer than that of all can be.
+-- The text of the first n bytes is no longer than the greatest length of the whole text.
 pub decoded_fits : (f : Flavor) (which : Strictness) (bytes start text : List ℕ) (n : ℕ) → IsDecoded f which (window_of bytes) 0 n start text false →
     n ≤ length bytes → length text ≤ length start + most_of_text f which bytes
 unfolding lossy_length

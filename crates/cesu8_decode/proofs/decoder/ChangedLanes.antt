@@ -1,4 +1,4 @@
--- What the vectors make of the bytes of a window without ill-formed bytes, byte by byte.
+-- The vectors that convert a window without ill-formed bytes, byte by byte.
 use Rattle.std.proofs.Common.{◌≡◌, ℕ, ◌+◌, ◌*◌, ◌/◌, ◌%◌, ◌^◌, ◌<◌, ◌≤◌, Bool, true, false, ◌&&◌, cond, eqb, leb, ltb, List, refl, sym, ap, ◌∙◌, arith, length, get_or, map, replicate, add-zero, zero-add, bit_and, bit_or, Fits, w8}
 use Rattle.std.specs.List.{range_with_len}
 use Rattle.std.proofs.lemmas.Bool.{agree_below, agree_below_at, eqb-true}
@@ -11,7 +11,7 @@ use Rattle.cesu8_decode.specs.Masks.{is_high_surrogate, changed_byte}
 use Rattle.cesu8_decode.specs.declared.pass.events.changed.TheConstants.{FIRST_BY_SECOND, SECOND_BY_SECOND, THIRD_BY_THIRD}
 use Rattle.cesu8_decode.proofs.decoder.FirstLanes.{on_range, lanes_are, lane_fits}
 
--- ---- lanes that are chosen
+-- ---- lanes that are selected
 
 is_high_lane : (b : ℕ) → b < 0x100 → eqb (bit_and b 0xF0) 0xA0 ≡ (leb 0xA0 b && ltb b 0xB0)
 is_high_lane b h = agree_below_at (λ b. eqb (bit_and b 0xF0) 0xA0) (λ b. leb 0xA0 b && ltb b 0xB0) 0x100 b refl h
@@ -22,7 +22,7 @@ both_marked true false = refl
 both_marked false true = refl
 both_marked false false = refl
 
--- Marks of ED and of A0 to AF that follow are those of high surrogates.
+-- The lanes that are marked as ED followed by A0 to AF are those of high surrogates.
 pub high_marked : (first second lead next : List ℕ) → length first ≡ 32 → length second ≡ 32 → Each1 (Fits w8) second →
     lead ≡ map (λ b. mask (eqb b 0xED)) first → next ≡ map (λ b. mask (eqb b 0xA0)) (zip2 bit_and second (replicate 32 0xF0)) →
     map (leb 0x80) (zip2 bit_and lead next) ≡ zip2 is_high_surrogate first second
@@ -34,7 +34,7 @@ high_marked first second lead next long long_second fits lead_is next_is =
     (λ i low inside. both_marked (eqb (a i) 0xED) (eqb (bit_and (b i) 0xF0) 0xA0)
     ∙ ap (λ t. eqb (a i) 0xED && t) (is_high_lane (b i) (lane_fits second long_second fits i inside))))
 
--- They are as many.
+-- There is a mark for each lane.
 pub length_marked : (first second lead next : List ℕ) → length first ≡ 32 → length second ≡ 32 →
     lead ≡ map (λ b. mask (eqb b 0xED)) first → next ≡ map (λ b. mask (eqb b 0xA0)) (zip2 bit_and second (replicate 32 0xF0)) →
     length (zip2 bit_and lead next) ≡ 32
@@ -51,12 +51,13 @@ second_byte two_before before = bit_or (get_or SECOND_BY_SECOND (two_before % 16
 abbrev third_byte : ℕ → ℕ → ℕ
 third_byte two_before b = bit_or (get_or THIRD_BY_THIRD (two_before % 16) 0) (bit_and b 0x0F)
 
--- The tables have the bytes of a pair.
+-- The entries of the tables are the bytes of the UTF-8 of a surrogate pair.
 first_is : (before : ℕ) → first_byte before ≡ 0xF0 + (before % 0x10 + 1) / 4
 first_is before =
     eqb-true _ _ (agree_below_at (λ x. eqb (get_or FIRST_BY_SECOND x 0) (0xF0 + (x + 1) / 4)) (λ x. true) 16 (before % 16) refl (omega arith))
 
--- An entry with the upper half of a continuation byte and the lower half of another are one.
+-- A table entry with the upper half of a continuation byte, joined with the lower half of another
+-- byte, is a continuation byte.
 joined : (table : List ℕ) (digit : ℕ → ℕ) → agree_below (λ x. eqb (get_or table x 0) ((8 + digit x) * 2 ^ 4)) (λ _. true) 16 ≡ true → (x y : ℕ) →
     bit_or (get_or table (x % 16) 0) (bit_and y 0x0F) ≡ 0x80 + (digit (x % 16) * 0x10 + y % 0x10)
 joined table digit agree x y =
@@ -81,13 +82,13 @@ by_tests false false true n two one b is = refl
 by_tests false false false true two one b is = rw is refl
 by_tests false false false false two one b is = refl
 
--- The lane that is chosen is the byte by the tests.
+-- The lane that is selected is the byte that `byte_by` gives.
 chosen_is : (t2 t3 t4 n : Bool) (two one b : ℕ) → eqb one 0xC0 ≡ n →
     chosen_byte t2 t3 t4 n two one b ≡ byte_by (cond n 2 0) (cond t2 6 0) (cond t3 6 0) (cond t4 6 0) two one b
 chosen_is t2 t3 t4 n two one b is =
     (λ k. cond t2 (first_is one k) (cond t3 (second_is two one k) (cond t4 (third_is two b k) (cond n 0 b)))) ∙ by_tests t2 t3 t4 n two one b is
 
--- Vectors that are chosen in turn have the changed bytes.
+-- Vectors that are selected one after another hold the converted bytes.
 module _ (lanes : List ℕ) (room : 36 ≤ length lanes) where
   abbrev lanes_from : ℕ → List ℕ
   lanes_from d = map (λ i. get_or lanes (i + d) 0) (range_with_len 0 32)

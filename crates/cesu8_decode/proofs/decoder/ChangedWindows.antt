@@ -1,4 +1,4 @@
--- What is packed for a window that has no ill-formed byte, byte by byte.
+-- What shuffles pack for a window without ill-formed bytes, byte by byte.
 use Rattle.std.proofs.Common.{◌≡◌, ℕ, ◌+◌, ◌-◌, ◌*◌, ◌/◌, ◌%◌, ◌^◌, ◌<◌, ◌≤◌, ⊎_elim, Bool, true, false, true≢false, ◌&&◌, ◌||◌, cond, eqb, ltb, List, ◌++◌, refl, sym, ap, ◌∙◌, subst, arith, length, take, drop, get_or, get_or-drop, map, replicate, length-append, length-drop, add-zero, zero-add, bit_or, max}
 use Rattle.std.specs.Int.{bit_at}
 use Rattle.std.specs.List.{flat_map, range_with_len}
@@ -27,14 +27,14 @@ use Rattle.cesu8_decode.proofs.decoder.EventsDecoded.{byte_there, width_there}
 use Rattle.cesu8_decode.proofs.decoder.FirstLanes.{on_range}
 use Rattle.cesu8_decode.proofs.decoder.EventsPacked.{range_split, range_same, range_length, range_few, written_on_range, bits_are}
 
--- ---- bytes that tell what covers them
+-- ---- bytes that show which character covers them
 
--- What no character covers is ill-formed.
+-- A byte that no character covers is ill-formed.
 no_cover : (w0 w1 w2 w3 w4 w5 : ℕ) → w0 ≤ 0 → w1 ≤ 1 → w2 ≤ 2 → eqb w3 6 ≡ false → eqb w4 6 ≡ false → eqb w5 6 ≡ false →
     ill_formed_by w0 w1 w2 w3 w4 w5 ≡ false → ⊥
 no_cover w0 w1 w2 w3 w4 w5 h0 h1 h2 h3 h4 h5 fine = grind (arith, nat_tests)
 
--- A width by its tests.
+-- A width as the result of its tests in order.
 abbrev chain : (one null two three pair : Bool) → ℕ
 chain one null two three pair = cond one 1 (cond null 2 (cond two 2 (cond three 3 (cond pair 6 0))))
 
@@ -58,17 +58,17 @@ chain_no_pair false false true three pair h4 = refl
 chain_no_pair false false false true pair h4 = refl
 chain_no_pair false false false false pair h4 = rw h4 refl
 
--- The second byte of a high surrogate is the first of none,
+-- No character begins at the second byte of a high surrogate.
 high_second : (f : Flavor) (a b d e g h k : ℕ) → is_high_surrogate a b ≡ true → first_width_by f b d e g h k ≤ 0
 unfolding first_width_by
 high_second f a b d e g h k high = grind (arith, nat_tests)
 
--- both begin nothing but a pair,
+-- If no surrogate pair begins at a high surrogate, no character there covers its second byte.
 high_first : (f : Flavor) (a b d e g h : ℕ) → is_high_surrogate a b ≡ true → eqb (first_width_by f a b d e g h) 6 ≡ false → first_width_by f a b d e g h ≤ 1
 unfolding first_width_by
 high_first f a b d e g h high other = grind (arith, nat_tests)
 
--- and are in no other character that begins before them.
+-- No character that begins one byte before a high surrogate covers its second byte.
 high_third : (f : Flavor) (x a b d e g : ℕ) → is_high_surrogate a b ≡ true → first_width_by f x a b d e g ≤ 2
 unfolding first_width_by
 high_third f x a b d e g high =
@@ -92,16 +92,16 @@ high_sixth f x y z v a b high =
 pair_first : (a b d e g h : ℕ) → pair_at a b d e g h ≡ true → is_high_surrogate a b ≡ true
 pair_first a b d e g h pair = grind (arith, nat_tests)
 
--- A pair begins with a high surrogate.
+-- A surrogate pair begins with a high surrogate.
 pair_high : (f : Flavor) (a b d e g h : ℕ) → first_width_by f a b d e g h ≡ 6 → is_high_surrogate a b ≡ true
 pair_high f a b d e g h six = pair_first a b d e g h ((width_tells f a b d e g h).3 six)
 
--- C0 begins nothing but the null of MUTF-8,
+-- No character but C0 80 begins with C0.
 lead_first : (f : Flavor) (a b d e g h : ℕ) → a ≡ 0xC0 → eqb (first_width_by f a b d e g h) 2 ≡ false → first_width_by f a b d e g h ≤ 0
 unfolding first_width_by
 lead_first f a b d e g h lead other = grind (arith, nat_tests)
 
--- and is no other byte of a character.
+-- C0 is no second byte of a character.
 lead_second : (f : Flavor) (a b d e g h : ℕ) → b ≡ 0xC0 → first_width_by f a b d e g h ≤ 1
 unfolding first_width_by
 lead_second f a b d e g h lead =
@@ -128,7 +128,7 @@ unfolding first_width_by
 lead_sixth f a b d e g h lead =
     chain_no_pair (one_at f a) (null_at f a b) (two_at a b) (three_at a b d) (pair_at a b d e g h) (grind (arith, nat_tests))
 
--- C0 80 is C0 that has a width of two.
+-- C0 80 is C0 at an offset of width 2.
 null_is_two : (f : Flavor) (a b d e g h : ℕ) → null_at f a b ≡ (eqb (first_width_by f a b d e g h) 2 && eqb a 0xC0)
 unfolding first_width_by
 null_is_two f a b d e g h = grind (arith, nat_tests)
@@ -143,7 +143,7 @@ module _ (f : Flavor) (window : List ℕ) (i : ℕ) (fine : is_ill_formed_at f w
   e4 : i + 4 + 1 ≡ i + 5
   e4 = omega arith
 
-  -- Before a byte that is not ill-formed, a high surrogate begins a pair,
+  -- If the next byte is not ill-formed, a high surrogate begins a surrogate pair.
   pub high_begins : is_high_surrogate (b (i + 4)) (b (i + 5)) ≡ eqb (w (i + 4)) 6
   high_begins =
       ⊎_elim (λ (high : is_high_surrogate (b (i + 4)) (b (i + 5)) ≡ true).
@@ -164,7 +164,7 @@ module _ (f : Flavor) (window : List ℕ) (i : ℕ) (fine : is_ill_formed_at f w
           (high_fifth f (b (i + 1)) (b (i + 1 + 1)) (b (i + 1 + 2)) (b (i + 1 + 3)) (b (i + 1 + 4)) (b (i + 1 + 5)) (at (i + 1 + 3) (i + 1 + 4) (omega arith) (omega arith)))
           (high_sixth f (b i) (b (i + 1)) (b (i + 2)) (b (i + 3)) (b (i + 4)) (b (i + 5)) high) fine
 
-  -- and C0 that is not ill-formed begins the null of MUTF-8.
+  -- C0 that is not ill-formed begins C0 80 in MUTF-8.
   pub lead_begins : eqb (b (i + 5)) 0xC0 ≡ (eqb (w (i + 5)) 2 && eqb (b (i + 5)) 0xC0)
   lead_begins =
       ⊎_elim (λ (two : eqb (w (i + 5)) 2 ≡ true). rw two refl)
@@ -182,9 +182,9 @@ module _ (f : Flavor) (window : List ℕ) (i : ℕ) (fine : is_ill_formed_at f w
           (lead_fifth f (b (i + 1)) (b (i + 1 + 1)) (b (i + 1 + 2)) (b (i + 1 + 3)) (b (i + 1 + 4)) (b (i + 1 + 5)) (at (i + 1 + 4) (omega arith)))
           (lead_sixth f (b i) (b (i + 1)) (b (i + 2)) (b (i + 3)) (b (i + 4)) (b (i + 5)) lead) fine
 
--- ---- what is chosen
+-- ---- what is selected
 
--- A byte is chosen alike if the tests are the same, and the bytes that a test needs.
+-- The same byte is selected if the tests agree, and the bytes that each test needs.
 chosen_alike : (t2 t3 t4 n : Bool) (w1 w2 w3 w4 two one b two' one' : ℕ) → t2 ≡ eqb w2 6 → t3 ≡ eqb w3 6 → t4 ≡ eqb w4 6 →
     n ≡ (eqb w1 2 && eqb one' 0xC0) → eqb one 0xC0 ≡ n → (t2 ≡ true → one ≡ one') → (t3 ≡ true → (two ≡ two') × (one ≡ one')) → (t4 ≡ true → two ≡ two') →
     byte_by (cond n 2 0) (cond t2 6 0) (cond t3 6 0) (cond t4 6 0) two one b ≡ byte_by w1 w2 w3 w4 two' one' b
@@ -194,7 +194,7 @@ chosen_alike false false true n w1 w2 w3 w4 two one b two' one' h2 h3 h4 hn ho s
 chosen_alike false false false true w1 w2 w3 w4 two one b two' one' h2 h3 h4 hn ho s2 s3 s4 = rw (sym h2, sym h3, sym h4, sym hn, ho) refl
 chosen_alike false false false false w1 w2 w3 w4 two one b two' one' h2 h3 h4 hn ho s2 s3 s4 = rw (sym h2, sym h3, sym h4, sym hn) refl
 
--- The changed byte rests on five bytes.
+-- The converted byte depends on five bytes.
 changed_same : (g h : ℕ → ℕ) (i j : ℕ) → ((d : ℕ) → d < 5 → g (i + d) ≡ h (j + d)) → changed_byte g i ≡ changed_byte h j
 changed_same g h i j same =
     let first : g i ≡ h j = ap g (sym (add-zero i)) ∙ same 0 (omega arith) ∙ ap h (add-zero j) in
@@ -221,8 +221,7 @@ few_for false b = omega arith
 one_for : (t : Bool) (b : ℕ) → t ≡ false → length (written_for t false b) ≡ 1
 one_for t b none = rw none refl
 
--- Whether the byte of a window goes that follows the first i bytes and five more, and the byte that is
--- written if it stays.
+-- Byte i + 5 of a window is dropped (`goes_at`), and the byte that is written if it is not.
 abbrev goes_at : Flavor → List ℕ → ℕ → Bool
 goes_at f window i = goes_by (width_at f window (i + 5)) (width_at f window (i + 4)) (get_or window (i + 5) 0)
 
@@ -233,11 +232,11 @@ byte_at f window i =
 
 -- ---- a window
 
--- Four zeros stand for what is before the bytes from an offset on.
+-- The bytes from an offset on, after four zeros in place of the bytes before.
 abbrev pub padded : (bytes : List ℕ) (at : ℕ) → ℕ → ℕ
 padded bytes at k = cond (ltb k 4) 0 (get_or bytes (at + (k - 4)) 0)
 
--- The bytes that go, by the masks of pairs and of C0 80.
+-- The bytes that are dropped, by the masks of surrogate pairs and of C0 80.
 abbrev pub gone_of : (pairs nulls : ℕ) → ℕ
 gone_of pairs nulls = bit_or (bit_or pairs (pairs * 2 % 2 ^ 64)) nulls
 
@@ -278,7 +277,7 @@ module _ (f : Flavor) (bytes : List ℕ) (at : ℕ) (window : Window) (is : IsWi
       let offset : at + (k - 4) + 5 ≡ p = omega arith in
       ap (λ t. cond t 0 (get_or bytes (at + (k - 4)) 0)) far ∙ sym (byte_there bytes (at + (k - 4))) ∙ ap there offset
 
-  -- A high surrogate begins a pair,
+  -- In the window a high surrogate begins a surrogate pair.
   pair_found : (k p : ℕ) → k < window.len + 3 → at + k + 1 ≡ p → is_high_surrogate (pad k) (pad (k + 1)) ≡ eqb (wide p) 6
   pair_found k p small e =
       ⊎_elim (λ (early : k < 4).
@@ -294,7 +293,7 @@ module _ (f : Flavor) (bytes : List ℕ) (at : ℕ) (window : Window) (is : IsWi
       ∙ ap (λ p. eqb (wide p) 6) offset)
       (cases_lt k 4)
 
-  -- and C0 the null of MUTF-8.
+  -- In the window C0 begins C0 80, in MUTF-8.
   null_found : (i p : ℕ) → i ≤ window.len → at + i + 4 ≡ p → eqb (pad (i + 3)) 0xC0 ≡ (eqb (wide p) 2 && eqb (there p) 0xC0)
   null_found i p small e =
       ⊎_elim (λ (start : i ≡ 0).
@@ -309,7 +308,7 @@ module _ (f : Flavor) (bytes : List ℕ) (at : ℕ) (window : Window) (is : IsWi
       ∙ ap (λ p. eqb (wide p) 2 && eqb (there p) 0xC0) offset)
       (cases_eq i 0)
 
-  -- So the bytes are chosen that are written,
+  -- The byte that is selected is the byte that decoding writes.
   byte_chosen : (i : ℕ) → i < window.len → changed_byte pad i ≡ byte_at f (window_of bytes) (at + i)
   byte_chosen i inside =
       let real : (k : ℕ) → is_high_surrogate (pad k) (pad (k + 1)) ≡ true → 4 ≤ k = λ k high.
@@ -383,12 +382,12 @@ module _ (f : Flavor) (bytes : List ℕ) (at : ℕ) (window : Window) (is : IsWi
       (bit_at-lt window.pairs i) (bit_at-lt (window.pairs * 2 % 2 ^ 64) i) (bit_at-lt window.nulls i)
       ∙ (λ k. p k || (s k || n k))
 
-  -- each offset is packed as it becomes,
+  -- What is packed for an offset is what decoding writes for it.
   offset_packed : (i : ℕ) → i < window.len → packed i ≡ decoded_at f (window_of bytes) (at + i)
   unfolding decoded_byte
   offset_packed i inside = (λ k. written_for (goes_found i inside k) (sym (fine_at i inside) k) (byte_chosen i inside k))
 
-  -- and so are all of the window.
+  -- What is packed for the window is what decoding writes for it.
   pub packed_all : flat_map packed (range_with_len 0 window.len) ≡ decoded f (window_of bytes) at window.len
   unfolding decoded
   packed_all =
@@ -412,7 +411,7 @@ module _ (f : Flavor) (bytes : List ℕ) (at : ℕ) (window : Window) (is : IsWi
       omega (arith, later, past, ends_within Lossy is long (i - 1) 6 (omega arith) (sym (eqb-true _ _ begins.1)) begins.0)))
       (cases_eq i 0)
 
-  -- One byte is written for each after it.
+  -- For each offset after the window one byte is packed.
   one_after : (i : ℕ) → window.len ≤ i → i < 64 → length (packed i) ≡ 1
   one_after i past small =
       let clear : bit_at gone i ≡ 0 = omega (arith, gone_bit i, pair_clear i past, before_clear i past small, null_clear i past) in
@@ -432,7 +431,7 @@ module _ (f : Flavor) (bytes : List ℕ) (at : ℕ) (window : Window) (is : IsWi
   few_others : length others ≡ 64 - window.len
   few_others = range_length packed (0 + window.len) (64 - window.len) (λ i low inside. one_after i (omega arith) (omega (arith, is.fits)))
 
-  -- What is stored without these is what the window becomes.
+  -- What is stored, without the bytes after the window, is what decoding writes for the window.
   pub window_changed : (end last : ℕ) (old new : List ℕ) → end ≤ length old → WritesAt (flat_map packed (range_with_len 0 64)) end old new last →
       WritesAt (decoded f (window_of bytes) at window.len) end old new (last - (64 - window.len))
   window_changed end last old new room stored =
@@ -442,7 +441,7 @@ module _ (f : Flavor) (bytes : List ℕ) (at : ℕ) (window : Window) (is : IsWi
       subst (λ n. WritesAt (decoded f (window_of bytes) at window.len) end old new n) is_end
       (subst (λ bs. WritesAt bs end old new (end + length first)) (take-append_seam first others ∙ packed_all) cut)
 
-  -- As many bytes are stored as are after the window, at least.
+  -- At least as many bytes are stored as there are offsets after the window.
   pub after_changed : (end last : ℕ) (old new : List ℕ) → WritesAt (flat_map packed (range_with_len 0 64)) end old new last → 64 - window.len ≤ last
   after_changed end last old new stored = omega (arith, stored.end, ap length split, length-append first others, few_others)
 
@@ -462,7 +461,7 @@ module _ (f : Flavor) (bytes : List ℕ) (at : ℕ) (window : Window) (is : IsWi
       let bit = ap (bit_at word) here ∙ word_is j in
       (λ q. written_for (eqb (bit q) 1) false (changed_byte pad (k + here q))))
 
-  -- So it is stored.
+  -- A block is stored after what was stored before it.
   pub block_stored : (word k middle last : ℕ) (block mid new : List ℕ) → word < 2 ^ 64 → ((j : ℕ) → bit_at word j ≡ bit_at gone (k + j)) →
       block ≡ map (λ i. changed_byte pad (k + i)) (range_with_len 0 32) →
       ((tests : List Bool) → 32 ≤ length tests → word ≡ mask_l tests → WritesAt (written (take 32 tests) (replicate 32 false) block) middle mid new last) →
@@ -472,7 +471,7 @@ module _ (f : Flavor) (bytes : List ℕ) (at : ℕ) (window : Window) (is : IsWi
       let store = stored (map t (range_with_len 0 64)) (omega (arith, length-map-range_with_len t 0 64)) (bits_are word 64 fits) in
       subst (λ bs. WritesAt bs middle mid new last) (block_packed word k block word_is block_is) store
 
-  -- Two blocks are stored one after another.
+  -- Two blocks are stored one after the other.
   pub both_stored : (end middle last : ℕ) (old mid new : List ℕ) → WritesAt (flat_map packed (range_with_len 0 32)) end old mid middle →
       WritesAt (flat_map packed (range_with_len 32 32)) middle mid new last → WritesAt (flat_map packed (range_with_len 0 64)) end old new last
   both_stored end middle last old mid new before next =
@@ -529,7 +528,7 @@ module _ (f : Flavor) (bytes : List ℕ) (at : ℕ) (window : Window) (is : IsWi
       ∙ sym (pad_there (32 + k) (at + 32 + (k - 4) + 5) (omega arith) (omega arith)))
       (cases_lt k 4)
 
-  -- The first block is stored, after zeros,
+  -- The first block is stored. Zeros are in place of the bytes before it.
   pub first_stored : (end middle : ℕ) (block old mid : List ℕ) → gone < 2 ^ 64 →
       block ≡ map (changed_byte (λ i. get_or (drop 28 (replicate 32 0 ++ chunk at 32 bytes)) i 0)) (range_with_len 0 32) →
       ((tests : List Bool) → 32 ≤ length tests → gone ≡ mask_l tests → WritesAt (written (take 32 tests) (replicate 32 false) block) end old mid middle) →
@@ -538,7 +537,7 @@ module _ (f : Flavor) (bytes : List ℕ) (at : ℕ) (window : Window) (is : IsWi
       block_stored gone 0 end middle block old mid fits (λ j. ap (bit_at gone) (sym (zero-add j)))
       (block_is ∙ lanes_alike (λ i. get_or (drop 28 (replicate 32 0 ++ chunk at 32 bytes)) i 0) 0 first_lane) stored
 
-  -- and the second one after it.
+  -- The second block is stored after the first.
   pub all_stored : (end middle last : ℕ) (block old mid new : List ℕ) → gone < 2 ^ 64 →
       block ≡ map (changed_byte (λ i. get_or (drop 28 (chunk at 32 bytes ++ chunk (at + 32) 32 bytes)) i 0)) (range_with_len 0 32) →
       WritesAt (flat_map packed (range_with_len 0 32)) end old mid middle →

@@ -1,4 +1,4 @@
--- Which offsets the characters of a window cover, by masks of where they begin.
+-- Which offsets the characters of a window cover, by the masks of their starts.
 use Rattle.std.proofs.Common.{◌≡◌, ℕ, zero, suc, ◌+◌, ◌-◌, ◌*◌, ◌%◌, ◌^◌, ◌<◌, ◌≤◌, ◌⊎◌, ⊎_elim, inl, inr, Bool, cond, true, false, ◌&&◌, ◌||◌, eqb, leb, ltb, List, get_or, bit_or, refl, sym, ap, ◌∙◌, arith}
 use Rattle.std.proofs.lemmas.Bool.{cases_lt, or_cases, and_parts, and_from, lt-ltb, le-leb, ltb-true, leb-true, or_left, or_right, eq-eqb}
 use Rattle.std.proofs.lemmas.Bool.Decides.{nat_tests}
@@ -11,7 +11,7 @@ use Rattle.cesu8_decode.proofs.decoder.MaskBits.{or_bits, earlier_bits}
 
 -- ---- the widths of forms
 
--- The width by the form that begins.
+-- The width, by which of the five forms begins.
 pub record Forms (w : ℕ) (one null two three pair : Bool) : Type 0 where
   pub is_one : one ≡ true → w ≡ 1
   pub is_null : null ≡ true → w ≡ 2
@@ -53,34 +53,34 @@ module _ (f : Flavor) (bytes : List ℕ) (at n : ℕ) where
       let b = λ (k : ℕ). get_or bytes k 0 in
       forms f (b (at + i)) (b (at + i + 1)) (b (at + i + 2)) (b (at + i + 3)) (b (at + i + 4)) (b (at + i + 5))
 
-  -- What begins at one of the n offsets,
+  -- An offset below n that passes a test.
   abbrev first : (ℕ → Bool) → ℕ → Bool
   first test i = ltb i n && test (at + i)
 
-  -- an offset that some bytes before it passes a test,
+  -- An offset k bytes after one that passes a test.
   abbrev pub after : ℕ → (ℕ → Bool) → ℕ → Bool
   after k test i = ltb i 64 && (leb k i && test (i - k))
 
-  -- where three bytes begin, of which a pair has two times three,
+  -- The starts of three bytes. A surrogate pair has two of them.
   abbrev pub threes_by : ℕ → Bool
   threes_by i = (first (is_three_at bytes) i || first (is_pair_at f bytes) i) || after 3 (first (is_pair_at f bytes)) i
 
-  -- where two or more begin,
+  -- The starts of two bytes or more.
   abbrev pub begins_by : ℕ → Bool
   begins_by i = (first (is_two_at bytes) i || first (is_null_at f bytes) i) || threes_by i
 
-  -- and what these cover.
+  -- The offsets that characters of two bytes or more cover.
   abbrev pub covered_by : ℕ → Bool
   covered_by i = (begins_by i || after 1 begins_by i) || after 2 threes_by i
 
-  -- A character that begins s bytes before an offset has m bytes at least from there on.
+  -- A character that begins s bytes before an offset has at least m bytes from that offset on.
   pub record Part (m i : ℕ) : Type 0 where
     pub s : ℕ
     pub near : s ≤ i
     pub begins : i - s < n
     pub reaches : s + m ≤ w (i - s)
 
-  -- ---- what is marked is covered
+  -- ---- an offset that is marked is covered
 
   part_here : (m i : ℕ) → i < n → m ≤ w i → Part m i
   part_here m i inside wide =
@@ -140,7 +140,7 @@ module _ (f : Flavor) (bytes : List ℕ) (at n : ℕ) where
       (λ (h : after 2 threes_by i ≡ true). let later = marked_after 2 threes_by i h in part_after 2 1 i later.0 (from_threes (i - 2) later.1))
       (or_cases (begins_by i || after 1 begins_by i) (after 2 threes_by i) set)
 
-  -- ---- what is covered is marked
+  -- ---- an offset that is covered is marked
 
   mark : (test : ℕ → Bool) (i : ℕ) → i < n → test (at + i) ≡ true → first test i ≡ true
   mark test i inside passes = and_from (ltb i n) (test (at + i)) (lt-ltb i n inside) passes
@@ -193,7 +193,7 @@ module _ (f : Flavor) (bytes : List ℕ) (at n : ℕ) where
   pub widths : (i : ℕ) → (w i ≤ 3) ⊎ (w i ≡ 6)
   widths i = width_bounds f bytes (at + i)
 
-  -- The second three bytes of a pair.
+  -- The second three bytes of a surrogate pair are marked.
   threes_later : (j i : ℕ) → j < n → 4 ≤ w j → i ≡ j + 3 → i < 64 → threes_by i ≡ true
   threes_later j i inside wide there small =
       let three = first (is_three_at bytes) in
@@ -215,7 +215,7 @@ module _ (f : Flavor) (bytes : List ℕ) (at n : ℕ) where
   three_begins : (i : ℕ) → threes_by i ≡ true → begins_by i ≡ true
   three_begins i set = or_right (first (is_two_at bytes) i || first (is_null_at f bytes) i) (threes_by i) set
 
-  -- So each offset is that a character of two bytes or more covers.
+  -- Each offset that a character of two bytes or more covers is marked.
   pub to_covered : (j s i : ℕ) → j < n → s < w j → 2 ≤ w j → i ≡ j + s → i < 64 → covered_by i ≡ true
   to_covered j zero i inside reach wide there small =
       let same : j ≡ i = omega (arith, there) in ap covered_by (sym same) ∙ from_begin j (to_begins j inside wide)

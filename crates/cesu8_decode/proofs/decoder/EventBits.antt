@@ -1,4 +1,4 @@
--- The bits of the events that a loop finds one after another.
+-- The bits of the events, which a loop visits one after another.
 use Rattle.std.proofs.Common.{◌≡◌, ◌≢◌, ℕ, zero, suc, ◌+◌, ◌-◌, ◌*◌, ◌/◌, ◌%◌, ◌^◌, ◌<◌, ◌≤◌, ◌⊎◌, ⊎_elim, inl, inr, sym, ap, ◌∙◌, arith}
 use Rattle.std.specs.Int.{bit_at}
 use Rattle.std.specs.Int.Bits.{bit_and}
@@ -9,7 +9,7 @@ use Rattle.std.proofs.lemmas.Nat.Bits.{bit_at-lt, bit_at_and, bit_at_ones_above,
 
 -- ---- the lowest bit
 
--- A number without the k lowest bits is a multiple.
+-- A number whose k lowest bits are 0 is a multiple of a power of two.
 none_below : (n k : ℕ) → ((i : ℕ) → i < k → bit_at n i ≡ 0) → n % 2 ^ k ≡ 0
 none_below n zero none = omega arith
 none_below n (suc k) none =
@@ -18,7 +18,7 @@ none_below n (suc k) none =
     ap (λ j. n % 2 ^ j) (sym more) ∙ mod-pow-add n 1 k
     ∙ ap (λ b. b * 2 ^ k + n % 2 ^ k) (none k (omega arith)) ∙ omega (arith, below)
 
--- Bit k is the lowest one.
+-- Bit k is the lowest bit that is set.
 pub record IsLowest (n k : ℕ) : Type 0 where
   pub set : bit_at n k ≡ 1
   pub below : (i : ℕ) → i < k → bit_at n i ≡ 0
@@ -40,13 +40,13 @@ module _ (n k : ℕ) (lowest : IsLowest n k) where
   less : n - 1 ≡ above * 2 ^ (1 + k) + (2 ^ k - 1)
   less = omega (arith, shape, some)
 
-  -- One less has none of it,
+  -- n & (n - 1) clears bit k.
   pub cleared : bit_at (bit_and n (n - 1)) k ≡ 0
   cleared =
       let there = ap (λ m. bit_at m k) less ∙ bit_at_cat_low above (1 + k) (2 ^ k - 1) k (omega arith) ∙ bit_at_ones_above k k (omega arith) in
       bit_at_and n (n - 1) k ∙ omega (arith, there)
 
-  -- and all the others.
+  -- n & (n - 1) leaves the other bits unchanged.
   pub others_stay : (i : ℕ) → i ≢ k → bit_at (bit_and n (n - 1)) i ≡ bit_at n i
   others_stay i other =
       ⊎_elim (λ (low : i < k). bit_at_and n (n - 1) i ∙ omega (arith, lowest.below i low))
@@ -59,7 +59,7 @@ module _ (n k : ℕ) (lowest : IsLowest n k) where
 
 -- ---- events
 
--- From `read` on, events are the bits of `changing` and the first one of each run of `ill`.
+-- From `read` on, the events are the bits of `changing` and the first bit of each run of `ill`.
 pub record AreEvents (changing ill read events : ℕ) : Type 0 where
   pub later : (i : ℕ) → bit_at events i ≡ 1 → read ≤ i
   pub is : (i : ℕ) → bit_at events i ≡ 1 → (bit_at changing i ≡ 1) ⊎ (bit_at ill i ≡ 1)
@@ -67,11 +67,11 @@ pub record AreEvents (changing ill read events : ℕ) : Type 0 where
   pub changes : (i : ℕ) → read ≤ i → bit_at changing i ≡ 1 → bit_at events i ≡ 1
   pub begins : (i : ℕ) → read ≤ i → bit_at ill i ≡ 1 → (bit_at events i ≡ 1) ⊎ ((j : ℕ) × (i ≡ j + 1) × (read ≤ j) × (bit_at ill j ≡ 1))
 
--- No event is at an offset.
+-- No event begins at the offset.
 abbrev pub NoEvent : (changing ill i : ℕ) → Type 0
 NoEvent changing ill i = (bit_at changing i ≡ 0) × (bit_at ill i ≡ 0)
 
--- A bit is 0 if it is not 1
+-- A bit that is not 1 is 0.
 pub unset : (n i : ℕ) → (bit_at n i ≡ 1 → ⊥) → bit_at n i ≡ 0
 unset n i none =
     ⊎_elim (λ (zero : bit_at n i ≡ 0). zero)
@@ -79,7 +79,7 @@ unset n i none =
     (cases_eq (bit_at n i) 0)
 
 module _ (changing ill read events : ℕ) (are : AreEvents changing ill read events) where
-  -- No run is before the next event,
+  -- No ill-formed byte precedes the next event.
   no_run : (n i next : ℕ) → i < read + n → read ≤ i → i < next → ((j : ℕ) → j < next → bit_at events j ≡ 0) → bit_at ill i ≡ 0
   no_run zero i next there low before none = absurd (omega arith)
   no_run (suc n) i next there low before none =
@@ -88,12 +88,12 @@ module _ (changing ill read events : ℕ) (are : AreEvents changing ill read eve
       omega (arith, run, no_run n run.0 next (omega (arith, run)) run.2 (omega (arith, run)) none))
       (are.begins i low set))
 
-  -- and nothing that changes.
+  -- No event precedes the next one.
   pub none_before : (next : ℕ) → ((j : ℕ) → j < next → bit_at events j ≡ 0) → (i : ℕ) → read ≤ i → i < next → NoEvent changing ill i
   none_before next none i low before =
       (unset changing i (λ set. omega (arith, are.changes i low set, none i before)), no_run (i + 1) i next (omega arith) low before none)
 
-  -- After an event, the others are left.
+  -- After an event, the remaining bits are the remaining events.
   pub after_event : (next after : ℕ) → IsLowest events next → next < after →
       ((i j : ℕ) → i ≡ j + 1 → next < i → i < after → (bit_at changing i ≡ 0) × ((bit_at ill i ≡ 0) ⊎ (bit_at ill j ≡ 1))) →
       ((j : ℕ) → after ≡ j + 1 → (bit_at ill after ≡ 0) ⊎ (bit_at ill j ≡ 0)) →

@@ -1,4 +1,4 @@
--- The loop over the events of a window.
+-- The loop that writes the events of a window.
 use Rattle.std.proofs.Common.{◌≡◌, ℕ, suc, ◌+◌, ◌-◌, ◌*◌, ◌/◌, ◌%◌, ◌^◌, ◌<◌, ◌≤◌, ⊎_elim, inl, inr, Bool, true, false, true≢false, cond, not, eqb, List, refl, sym, ap, ◌∙◌, subst, arith, length, take, drop, get_or, map, min, max, length-drop, add-zero, append-nil}
 use Rattle.std.specs.Int.{bit_at, bit_not, trailing_ones, trailing_zeros, w64}
 use Rattle.std.specs.Int.Bits.{bit_and, bit_or}
@@ -47,7 +47,7 @@ module _ (mask : ℕ) (test : ℕ → Bool) (at n : ℕ) (marks : Marks mask tes
   bit_inside : (i : ℕ) → i < n → bit_at mask i ≡ cond (test (at + i)) 1 0
   bit_inside i inside = bit i ∙ ap {B = ℕ} (λ t. cond t 1 0) (get_or-map-range_with_len test at n i (at + i) false inside refl)
 
-  -- A bit that is set marks an offset that passes the test,
+  -- A bit that is set marks an offset that passes the test.
   pub marked : (i : ℕ) → bit_at mask i ≡ 1 → (i < n) × (test (at + i) ≡ true)
   marked i set =
       ⊎_elim (λ (inside : i < n). (inside, one_true (test (at + i)) (sym (bit_inside i inside) ∙ set)))
@@ -56,11 +56,11 @@ module _ (mask : ℕ) (test : ℕ → Bool) (at n : ℕ) (marks : Marks mask tes
       absurd (omega (arith, set, bit i, ap {B = ℕ} (λ t. cond t 1 0) none)))
       (cases_lt i n)
 
-  -- and one that is not set marks one that does not.
+  -- A bit that is not set marks an offset that fails the test.
   pub unmarked : (i : ℕ) → bit_at mask i ≡ 0 → i < n → test (at + i) ≡ false
   unmarked i none inside = zero_false (test (at + i)) (sym (bit_inside i inside) ∙ none)
 
--- The bits of a word that is shifted by one.
+-- The bits of a word that is shifted left by one.
 module _ (n : ℕ) where
   kept_bit : (i : ℕ) → i < 64 → bit_at (n * 2 % 2 ^ 64) i ≡ bit_at (n * 2) i
   kept_bit i small =
@@ -76,7 +76,7 @@ module _ (n : ℕ) where
       let half : n * 2 / 2 ≡ n = omega arith in
       kept_bit i small ∙ ap (bit_at (n * 2)) next ∙ bit_at-suc (n * 2) j ∙ ap (λ m. bit_at m j) half
 
--- From the first byte on, all are left.
+-- At the first byte, all events are left.
 module _ (changing ill : ℕ) (fits : ill < 2 ^ 64) where
   abbrev shifted : ℕ
   shifted = ill * 2 % 2 ^ 64
@@ -133,7 +133,7 @@ module _ (changing ill : ℕ) (fits : ill < 2 ^ 64) where
         (cases_lt i 64);
   }
 
--- The ones from an offset on are as many as `trailing_ones` says.
+-- From an offset on, as many bits are set in a row as `trailing_ones` returns.
 module _ (word next : ℕ) (fits : word < 2 ^ 64) where
   abbrev rest : ℕ
   rest = word / 2 ^ next
@@ -162,7 +162,7 @@ module _ (word next : ℕ) (fits : word < 2 ^ 64) where
 
 -- ---- the loop
 
--- Some bytes of a window are read, and what they become is written.
+-- The state of the loop: some bytes of the window are read, and their text is written.
 pub record AreRead (f : Flavor) (which : Strictness) (bytes : List ℕ) (at : ℕ) (window : Window) (start : ℕ) (old : List ℕ) (ill read events end : ℕ) (new : List ℕ) : Type 0 where
   pub ill_formed : ill ≡ window.ill_formed
   pub left : AreEvents (bit_or window.pairs window.nulls) ill read events
@@ -175,12 +175,12 @@ most_more : (which : Strictness) (m n : ℕ) → most_written which m + n ≤ mo
 most_more Strict m n = omega arith
 most_more Lossy m n = omega arith
 
--- Three bytes for each are written in lossy reading alone.
+-- Only lossy decoding writes three bytes for each byte.
 most_run : (which : Strictness) (m n : ℕ) → (which ≡ Strict → ⊥) → most_written which m + 3 * n ≤ most_written which (m + n)
 most_run Strict m n lossy = absurd (lossy refl)
 most_run Lossy m n lossy = omega arith
 
--- No more is written for fewer bytes.
+-- The greatest length for fewer bytes is no greater.
 pub most_grows : (which : Strictness) (m n : ℕ) → m ≤ n → most_written which m ≤ most_written which n
 most_grows Strict m n fewer = omega arith
 most_grows Lossy m n fewer = omega arith
@@ -194,7 +194,7 @@ module _ {f : Flavor} (which : Strictness) {bytes : List ℕ} {at : ℕ} {window
   abbrev w : ℕ → ℕ
   w = width_at f bytes
 
-  -- Nothing that changes begins where no character begins.
+  -- If no character begins at an offset, none begins there that needs conversion.
   pub none_changes : (i : ℕ) → w i ≡ 0 → (is_pair_at f bytes i ≡ false) × (is_null_at f bytes i ≡ false)
   none_changes i none = (
     ne_eqb (w i) 6 (λ six. omega (arith, none, six)),
@@ -202,7 +202,7 @@ module _ {f : Flavor} (which : Strictness) {bytes : List ℕ} {at : ℕ} {window
         (λ other. other) (cases_Bool (is_null_at f bytes i)),
   )
 
-  -- No pair begins in a window whose mask of pairs is zero.
+  -- In a window whose mask of surrogate pairs is 0, no surrogate pair begins.
   pub no_pair_begins : window.pairs ≡ 0 → (i : ℕ) → at ≤ i → i < at + window.len → is_pair_at f bytes i ≡ false
   no_pair_begins none i low inside =
       let there : at + (i - at) ≡ i = omega arith in
@@ -222,7 +222,8 @@ module _ {f : Flavor} (which : Strictness) {bytes : List ℕ} {at : ℕ} {window
       let n = unset window.nulls i (λ set. true≢false (sym (marked window.nulls (is_null_at f bytes) at is.n is.nulls i set).1 ∙ null)) in
       bit_at_or window.pairs window.nulls i ∙ omega (arith, p, n)
 
-  -- A character that begins at one of the offsets ends within the window, and none begins in it.
+  -- A character that begins at one of the offsets ends within the window, and no other character
+  -- begins inside it.
   module _ (next m : ℕ) (some : 0 < m) (wide : m ≡ w (at + next)) (begins : next < is.n) where
     pub ends_within : next + m ≤ window.len
     ends_within =
@@ -253,11 +254,11 @@ module _ {f : Flavor} (which : Strictness) {bytes : List ℕ} {at : ℕ} {window
         (λ (none : w (at + i) ≤ 0). omega (arith, none))
         (cases_lt 0 (w (at + i)))
 
-  -- C0 80 begins where its bit is set.
+  -- At an offset whose bit is set, C0 80 begins.
   pub null_marked : (next : ℕ) → bit_at window.nulls next ≡ 1 → is_null_at f bytes (at + next) ≡ true
   null_marked next set = (marked window.nulls (is_null_at f bytes) at is.n is.nulls next set).1
 
-  -- Before the loop nothing is read.
+  -- Before the loop no byte is read.
   pub none_read : (start : ℕ) (old : List ℕ) (ill : ℕ) → ill ≡ window.ill_formed → ill < 2 ^ 64 → is_boundary_at f (window_of bytes) at ≡ true →
       AreRead f which bytes at window start old ill 0 (bit_or (bit_or window.pairs window.nulls) (bit_and ill (bit_not w64 (ill * 2 % 2 ^ 64)))) start old
   unfolding decoded
@@ -271,7 +272,7 @@ module _ {f : Flavor} (which : Strictness) {bytes : List ℕ} {at : ℕ} {window
   }
 
   module _ {start : ℕ} {old : List ℕ} {ill read events end : ℕ} {new : List ℕ} (so_far : AreRead f which bytes at window start old ill read events end new) where
-    -- Bytes stay before the next event.
+    -- The bytes before the next event are in no event.
     stay_before : (next : ℕ) → next ≤ window.len → ((j : ℕ) → j < next → bit_at events j ≡ 0) → (i : ℕ) → at + read ≤ i → i < at + next → Stays f bytes i
     stay_before next within none i low inside =
         let k = i - at in
@@ -290,7 +291,7 @@ module _ {f : Flavor} (which : Strictness) {bytes : List ℕ} {at : ℕ} {window
         record { pair = none.0; null = none.1; fine = rest.1 })
         (cases_lt k is.n)
 
-    -- So they are copied.
+    -- The bytes before the next event are copied.
     pub copied_to : (next copied : ℕ) (mid : List ℕ) → read ≤ next → next ≤ window.len → ((j : ℕ) → j < next → bit_at events j ≡ 0) →
         WritesAt (take (next - read) (drop (at + read) bytes)) end new mid copied →
         WritesAt (decoded f (window_of bytes) at next) start old mid copied × (copied ≤ start + most_written which next)
@@ -310,7 +311,7 @@ module _ {f : Flavor} (which : Strictness) {bytes : List ℕ} {at : ℕ} {window
           ),
         )
 
-    -- The next event begins after what was read.
+    -- The next event is not before the bytes that are left.
     pub next_begins : 0 < events → events < 2 ^ 64 → let next = trailing_zeros w64 events in
         IsLowest events next × (read ≤ next) × (next < is.n) × (next < 64)
     next_begins some fits =
@@ -330,7 +331,7 @@ module _ {f : Flavor} (which : Strictness) {bytes : List ℕ} {at : ℕ} {window
           first.0,
         )
 
-    -- An event that is no ill-formed byte and no null is a pair.
+    -- An event that is neither an ill-formed byte nor C0 80 is a surrogate pair.
     pub pair_marked : (next : ℕ) → IsLowest events next → bit_at ill next ≡ 0 → bit_at window.nulls next ≡ 0 → is_pair_at f bytes (at + next) ≡ true
     pair_marked next lowest fine other =
         ⊎_elim (λ (changes : bit_at (bit_or window.pairs window.nulls) next ≡ 1).
@@ -351,7 +352,7 @@ module _ {f : Flavor} (which : Strictness) {bytes : List ℕ} {at : ℕ} {window
           (ap (λ m. bit_at m (next + n - 1)) (sym so_far.ill_formed) ∙ ones (next + n - 1) (omega arith) (omega arith)) in
           omega (arith, final.0, is.len)
 
-      -- There is room for the replacement characters of a run.
+      -- The buffer has space for the replacement characters of a run.
       pub run_room : (n : ℕ) → 0 < n → (which ≡ Strict → ill ≡ 0) → ((i : ℕ) → next ≤ i → i < next + n → bit_at ill i ≡ 1) →
           copied + 3 * n ≤ start + most_written which window.len
       run_room n some strict ones =
@@ -362,7 +363,7 @@ module _ {f : Flavor} (which : Strictness) {bytes : List ℕ} {at : ℕ} {window
             most_grows which (next + n) window.len (run_ends_within n some ones),
           )
 
-      -- A run of ill-formed bytes is read.
+      -- After a run of ill-formed bytes the loop's state holds again.
       pub run_read : (n : ℕ) → 0 < n → (which ≡ Strict → ill ≡ 0) → ((i : ℕ) → next ≤ i → i < next + n → bit_at ill i ≡ 1) → bit_at ill (next + n) ≡ 0 →
           WritesAt (utf8 (replicate n 0xFFFD)) copied mid last after →
           AreRead f which bytes at window start old ill (next + n) (bit_and events (events - 1)) after last
@@ -402,7 +403,7 @@ module _ {f : Flavor} (which : Strictness) {bytes : List ℕ} {at : ℕ} {window
               not_reached f (window_of bytes) (at + i) bad s (omega arith),
             ))
 
-      -- A character that changes is read.
+      -- After a character that needs conversion the loop's state holds again.
       pub changed_read : (m : ℕ) → 0 < m → m ≡ w (at + next) → next < is.n → WritesAt (decoded f (window_of bytes) (at + next) m) copied mid last after →
           after ≤ copied + m →
           AreRead f which bytes at window start old ill (next + m) (bit_and events (events - 1)) after last
@@ -427,7 +428,7 @@ not_false : (t : Bool) → not t ≡ false → t ≡ true
 not_false true e = refl
 not_false false e = absurd (true≢false e)
 
--- The test of a bit tells whether it is set.
+-- The test of a bit decides whether it is set.
 pub bit_tested : (n i : ℕ) → (not (eqb (bit_and (n / 2 ^ i) 1) 0) ≡ true → bit_at n i ≡ 1) × (not (eqb (bit_and (n / 2 ^ i) 1) 0) ≡ false → bit_at n i ≡ 0)
 bit_tested n i =
     let is = shr_and_one n i in (

@@ -1,4 +1,4 @@
--- What the bytes of a window become at its events and between them.
+-- What decoding writes for the events of a window and for the bytes between them.
 use Rattle.std.proofs.Common.{◌≡◌, ℕ, zero, suc, ◌+◌, ◌-◌, ◌*◌, ◌<◌, ◌≤◌, ⊎_elim, Bool, cond, true, false, ◌&&◌, eqb, List, [], ◌∷◌, ◌++◌, refl, sym, ap, ◌∙◌, arith, length, take, drop, get_or, replicate, length-drop, get_or-drop, add-zero, zero-add, suc-add, append_assoc, length-append, subst}
 use Rattle.std.proofs.Math.Seq.{drop-cons, take-append_seam}
 use Rattle.std.proofs.lemmas.Bool.{agree_below_at, cases_lt, cases_eq, eqb-true, ne_eqb}
@@ -25,14 +25,14 @@ use Rattle.cesu8_decode.proofs.chunks.Changed.{pair_width, pair_read, seen_null_
 
 -- ---- between events
 
--- What a byte tells in a window that has five zeros before the bytes.
+-- A byte at an offset is in the window five bytes later.
 pub byte_there : (bytes : List ℕ) (i : ℕ) → get_or (window_of bytes) (i + 5) 0 ≡ get_or bytes i 0
 byte_there bytes i = let offset : i + 5 ≡ 5 + i = omega arith in ap (λ p. get_or (window_of bytes) p 0) offset ∙ follows_zeros bytes i
 
 byte_after : (bytes : List ℕ) (i k : ℕ) → get_or (window_of bytes) (i + 5 + k) 0 ≡ get_or bytes (i + k) 0
 byte_after bytes i k = let offset : i + 5 + k ≡ i + k + 5 = omega arith in ap (λ p. get_or (window_of bytes) p 0) offset ∙ byte_there bytes (i + k)
 
--- So it is with widths.
+-- The width at an offset is in the window five bytes later.
 pub width_there : (f : Flavor) (bytes : List ℕ) (i : ℕ) → width_at f (window_of bytes) (i + 5) ≡ width_at f bytes i
 width_there f bytes i k =
     first_width_by f (byte_there bytes i k) (byte_after bytes i 1 k) (byte_after bytes i 2 k) (byte_after bytes i 3 k) (byte_after bytes i 4 k) (byte_after bytes i 5 k)
@@ -40,17 +40,17 @@ width_there f bytes i k =
 zeros_before : (bytes : List ℕ) (i : ℕ) → i < 5 → get_or (window_of bytes) i 0 ≡ 0
 zeros_before bytes i small = eqb-true _ _ (agree_below_at (λ s. eqb (get_or (window_of bytes) s 0) 0) (λ _. true) 5 i refl small)
 
--- C0 leads no other character of two bytes than the null of MUTF-8.
+-- C0 begins no character of two bytes other than C0 80.
 no_null : (f : Flavor) (a b d e g h : ℕ) → null_at f a b ≡ false → (eqb (first_width_by f a b d e g h) 2 && eqb a 0xC0) ≡ false
 unfolding first_width_by
 no_null f a b d e g h none = grind (arith, nat_tests)
 
--- C0 begins no other character than the null of MUTF-8,
+-- C0 begins no character other than C0 80.
 lead_first : (f : Flavor) (a b d e g h : ℕ) → null_at f a b ≡ false → a ≡ 0xC0 → first_width_by f a b d e g h ≤ 0
 unfolding first_width_by
 lead_first f a b d e g h none lead = grind (arith, nat_tests)
 
--- and is in none but a pair.
+-- C0 is in no later position of a character, except possibly of a surrogate pair.
 lead_second : (f : Flavor) (a b d e g h : ℕ) → eqb (first_width_by f a b d e g h) 6 ≡ false → b ≡ 0xC0 → first_width_by f a b d e g h ≤ 1
 unfolding first_width_by
 lead_second f a b d e g h other lead = grind (arith, nat_tests)
@@ -66,12 +66,12 @@ lead_third : (f : Flavor) (a b d e g h : ℕ) → eqb (first_width_by f a b d e 
 unfolding first_width_by
 lead_third f a b d e g h other lead = low_chain (one_at f a) (null_at f a b) (two_at a b) (three_at a b d) (pair_at a b d e g h) (no_three a b d lead) other
 
--- What no character covers is ill-formed.
+-- A byte that no character covers is ill-formed.
 no_cover : (w0 w1 w2 w3 w4 w5 : ℕ) → w0 ≤ 0 → w1 ≤ 1 → w2 ≤ 2 → eqb w3 6 ≡ false → eqb w4 6 ≡ false → eqb w5 6 ≡ false →
     ill_formed_by w0 w1 w2 w3 w4 w5 ≡ false → ⊥
 no_cover w0 w1 w2 w3 w4 w5 h0 h1 h2 h3 h4 h5 fine = grind (arith, nat_tests)
 
--- No event begins at an offset.
+-- No event is at the offset.
 pub record Stays (f : Flavor) (bytes : List ℕ) (i : ℕ) : Type 0 where
   pub pair : is_pair_at f bytes i ≡ false
   pub null : is_null_at f bytes i ≡ false
@@ -84,7 +84,7 @@ module _ (f : Flavor) (bytes : List ℕ) where
   abbrev b : ℕ → ℕ
   b i = get_or (window_of bytes) i 0
 
-  -- A byte that neither a pair nor null covers becomes itself.
+  -- A byte that is in no surrogate pair and in no C0 80 is unchanged.
   becomes_itself : (i : ℕ) → eqb (w (i + 5)) 6 ≡ false → eqb (w (i + 4)) 6 ≡ false → eqb (w (i + 3)) 6 ≡ false → eqb (w (i + 2)) 6 ≡ false →
       eqb (w (i + 1)) 6 ≡ false → (eqb (w (i + 5)) 2 && eqb (b (i + 5)) 0xC0) ≡ false → (eqb (w (i + 4)) 2 && eqb (b (i + 4)) 0xC0) ≡ false →
       is_ill_formed_at f (window_of bytes) i ≡ false → decoded_at f (window_of bytes) i ≡ b (i + 5) ∷ []
@@ -94,7 +94,7 @@ module _ (f : Flavor) (bytes : List ℕ) where
       let byte : byte_by (w (i + 4)) (w (i + 3)) (w (i + 2)) (w (i + 1)) (b (i + 3)) (b (i + 4)) (b (i + 5)) ≡ b (i + 5) = rw (p3, p2, p1, before) refl in
       (λ k. written_for (goes k) (fine k) (byte k))
 
-  -- After a boundary, from where on no pair begins,
+  -- If no surrogate pair begins in the n bytes after a boundary, none covers any of them.
   module _ (at n : ℕ) (boundary : is_boundary_at f (window_of bytes) at ≡ true) (pairs : (i : ℕ) → at ≤ i → i < at + n → is_pair_at f bytes i ≡ false) where
     no_pair_at : (q : ℕ) → at ≤ q → q < at + n + 5 → eqb (w q) 6 ≡ false
     no_pair_at q low inside =
@@ -120,7 +120,7 @@ module _ (f : Flavor) (bytes : List ℕ) where
         no_null f (b q) (b (q + 1)) (b (q + 2)) (b (q + 3)) (b (q + 4)) (b (q + 5)) ((λ k. null_at f (first k) (second k)) ∙ null late))
         (cases_lt q (at + 5))
 
-    -- a byte becomes itself if it is in no C0 80 and not ill-formed.
+    -- A byte there that is not ill-formed and in no C0 80 is unchanged.
     pub plain_at : (i : ℕ) → at ≤ i → i < at + n → is_null_at f bytes i ≡ false → ((j : ℕ) → at ≤ j → i ≡ j + 1 → is_null_at f bytes j ≡ false) →
         is_ill_formed_at f (window_of bytes) i ≡ false → decoded_at f (window_of bytes) i ≡ get_or bytes i 0 ∷ []
     plain_at i low inside null before fine =
@@ -131,7 +131,7 @@ module _ (f : Flavor) (bytes : List ℕ) where
         (no_null_at (i + 4) (omega arith) (λ late. before (i + 4 - 5) (omega arith) (omega arith))) fine
         ∙ ap (λ x. x ∷ []) (byte_there bytes i)
 
-    -- It is no C0 then.
+    -- A byte there that is not ill-formed and at which no C0 80 begins is not C0.
     pub no_lone_lead : (i : ℕ) → at ≤ i → i < at + n → is_null_at f bytes i ≡ false → is_ill_formed_at f (window_of bytes) i ≡ false → get_or bytes i 0 ≡ 0xC0 → ⊥
     no_lone_lead i low inside null fine lead =
         let first = byte_there bytes i in
@@ -164,14 +164,14 @@ module _ (f : Flavor) (bytes : List ℕ) where
       let others = ap (λ p. take n (drop p bytes)) next ∙ rest in
       ap (take (suc n)) (drop-cons bytes at 0 (omega arith)) ∙ (λ k. first k ++ others k)
 
-  -- After a boundary, bytes stay where no event begins.
+  -- After a boundary, bytes in which no event begins are unchanged.
   pub kept_decoded : (at n : ℕ) → at + n ≤ length bytes → is_boundary_at f (window_of bytes) at ≡ true → ((i : ℕ) → at ≤ i → i < at + n → Stays f bytes i) →
       take n (drop at bytes) ≡ decoded f (window_of bytes) at n
   kept_decoded at n fits boundary stay = kept_range at n fits (kept_at at n boundary stay)
 
   -- ---- boundaries
 
-  -- No character crosses the front of another,
+  -- No character crosses the start of another.
   pub boundary_before : (i : ℕ) → i < length bytes → 0 < w (i + 5) → is_boundary_at f (window_of bytes) i ≡ true
   boundary_before i inside some =
       boundary_where f (window_of bytes) i (λ s small.
@@ -181,7 +181,7 @@ module _ (f : Flavor) (bytes : List ℕ) where
       omega (arith, ap w there, ends_before f (window_of bytes) bytes (i + s - 5) i (follows_zeros bytes) (omega arith) inside some))
       (cases_lt (i + s) 5))
 
-  -- nor its end,
+  -- No character crosses the end of another.
   pub boundary_behind : (i m : ℕ) → i + m ≤ length bytes → 0 < m → w (i + 5) ≡ m → is_boundary_at f (window_of bytes) (i + m) ≡ true
   boundary_behind i m fits some is =
       boundary_where f (window_of bytes) (i + m) (λ s small.
@@ -202,7 +202,7 @@ module _ (f : Flavor) (bytes : List ℕ) where
       (cases_lt p i))
       (cases_lt q 5))
 
-  -- nor an ill-formed byte before it.
+  -- No character crosses the offset after an ill-formed byte.
   pub boundary_behind_ill_formed : (i : ℕ) → is_ill_formed_at f (window_of bytes) i ≡ true → is_boundary_at f (window_of bytes) (i + 1) ≡ true
   boundary_behind_ill_formed i ill =
       boundary_where f (window_of bytes) (i + 1) (λ s small.
@@ -211,7 +211,7 @@ module _ (f : Flavor) (bytes : List ℕ) where
 
   -- ---- events
 
-  -- A character that is read becomes what is written for it.
+  -- What is written for a character is the text that lossy decoding gives for it.
   character_decoded : (at m : ℕ) (written : List ℕ) → at + m ≤ length bytes → 0 < m → w (at + 5) ≡ m → IsReadSoFar f Lossy (drop at bytes) (drop m (drop at bytes)) [] written →
       decoded f (window_of bytes) at m ≡ written
   character_decoded at m written fits some is read =
@@ -230,7 +230,7 @@ module _ (f : Flavor) (bytes : List ℕ) where
       ∙ ap (λ bs. bs ++ utf8 (reading f (drop m rest))) (sym read.written)
       ∙ ap (λ bs. written ++ utf8 (reading f bs)) (drop-drop m at bytes))
 
-  -- A surrogate pair becomes its UTF-8,
+  -- What decoding writes for a surrogate pair is its UTF-8.
   module _ (at : ℕ) (fits : at + 6 ≤ length bytes) (has : HasPair (drop at bytes)) where
     six : w (at + 5) ≡ 6
     six = width_in f (window_of bytes) bytes 5 at (follows_zeros bytes) (omega arith) ∙ pair_width f (drop at bytes) (omega (arith, length-drop at bytes)) has
@@ -240,11 +240,11 @@ module _ (f : Flavor) (bytes : List ℕ) where
         character_decoded at 6 four fits (omega arith) six
         (pair_read f Lossy (drop at bytes) [] four four (pair_width f (drop at bytes) (omega (arith, length-drop at bytes)) has) is_utf8 refl)
 
-    -- is six bytes wide,
+    -- A surrogate pair is six bytes wide.
     pub pair_wide : 6 ≡ width_at f bytes at
     pair_wide = sym six ∙ width_there f bytes at
 
-  -- It begins where the test says so.
+  -- If the test says so, a surrogate pair begins at the offset.
   pub pair_begins : (at : ℕ) → is_pair_at f bytes at ≡ true → HasPair (drop at bytes)
   pair_begins at pair =
       let g : (k : ℕ) → get_or (drop at bytes) k 0 ≡ get_or bytes (at + k) 0 = λ k. get_or-drop at bytes k 0 in
@@ -252,7 +252,7 @@ module _ (f : Flavor) (bytes : List ℕ) where
       pair_of_test (drop at bytes)
       ((λ k. pair_at (first k) (g 1 k) (g 2 k) (g 3 k) (g 4 k) (g 5 k)) ∙ (width_tells f _ _ _ _ _ _).3 (eqb-true _ _ pair))
 
-  -- C0 80 becomes 00,
+  -- What decoding writes for C0 80 is 00.
   module _ (at : ℕ) (fits : at + 2 ≤ length bytes) (null : is_null_at f bytes at ≡ true) where
     begins_null : null_at f (get_or (drop at bytes) 0 0) (get_or (drop at bytes) 1 0) ≡ true
     begins_null =
@@ -267,16 +267,16 @@ module _ (f : Flavor) (bytes : List ℕ) where
         character_decoded at 2 (0 ∷ []) fits (omega arith) two
         (seen_null_read f (drop at bytes) (drop at bytes) (λ i small. refl) Lossy [] (0 ∷ []) begins_null refl)
 
-    -- and is two bytes wide.
+    -- C0 80 is two bytes wide.
     pub null_wide : 2 ≡ width_at f bytes at
     null_wide = sym two ∙ width_there f bytes at
 
-  -- An ill-formed byte becomes the replacement character.
+  -- What decoding writes for an ill-formed byte is the replacement character.
   pub replaced_at : (i : ℕ) → is_ill_formed_at f (window_of bytes) i ≡ true → 0xEF ∷ 0xBF ∷ 0xBD ∷ [] ≡ decoded_at f (window_of bytes) i
   unfolding decoded_byte
   replaced_at i ill = rw ill refl
 
-  -- Ill-formed bytes become replacement characters.
+  -- What decoding writes for n ill-formed bytes is n replacement characters.
   pub ill_formed_decoded : (at n : ℕ) → ((i : ℕ) → at ≤ i → i < at + n → is_ill_formed_at f (window_of bytes) i ≡ true) →
       utf8 (replicate n 0xFFFD) ≡ decoded f (window_of bytes) at n
   unfolding decoded decoded_byte utf8_of
@@ -300,7 +300,7 @@ unfolding utf8_of
 length_replacements zero = refl
 length_replacements (suc n) = omega (arith, length_replacements n)
 
--- Of ten and a part of the next one, the first ones are so many.
+-- Of the bytes that one store writes, the first 3n are n replacement characters.
 pub first_replacements : (n : ℕ) → n ≤ 10 → take (3 * n) (utf8 (replicate 10 0xFFFD) ++ 0xEF ∷ 0xBF ∷ []) ≡ utf8 (replicate n 0xFFFD)
 first_replacements n few =
     let some = utf8 (replicate n 0xFFFD) in
@@ -311,7 +311,8 @@ first_replacements n few =
     ∙ ap (λ m. take m (some ++ (others ++ 0xEF ∷ 0xBF ∷ []))) (sym (length_replacements n))
     ∙ take-append_seam some (others ++ 0xEF ∷ 0xBF ∷ [])
 
--- After m replacement characters a store of ten writes n more, since those after them do not count.
+-- If a store of ten replacement characters follows m of them, m + n are written: those after them
+-- do not count.
 pub replacements_stored : (m n start at last : ℕ) (lanes old mid new : List ℕ) → n ≤ 10 → lanes ≡ utf8 (replicate 10 0xFFFD) ++ 0xEF ∷ 0xBF ∷ [] →
     WritesAt (utf8 (replicate m 0xFFFD)) start old mid at → WritesAt lanes at mid new last → at ≤ length mid →
     WritesAt (utf8 (replicate (m + n) 0xFFFD)) start old new (at + 3 * n)

@@ -1,4 +1,4 @@
--- What is packed for a window, byte by byte.
+-- What shuffles pack for a window, byte by byte.
 use Rattle.std.proofs.Common.{◌≡◌, ◌≢◌, ℕ, zero, suc, ◌+◌, ◌-◌, ◌*◌, ◌/◌, ◌%◌, ◌^◌, ◌<◌, ◌≤◌, ⊎_elim, Bool, true, false, true≢false, cond, eqb, List, [], ◌∷◌, ◌++◌, refl, sym, ap, ◌∙◌, subst, arith, length, take, get_or, map, replicate, length-append, append_assoc, add-zero, zero-add, suc-add}
 use Rattle.std.specs.Int.{bit_at}
 use Rattle.std.specs.List.{flat_map, range_with_len}
@@ -34,14 +34,14 @@ use Rattle.cesu8_bytes.specs.Packing.{written_for, written}
 
 -- ---- ranges
 
--- What more offsets give is what the first ones give, and then the others.
+-- What m + n offsets give is what the first m give, and then the other n.
 pub range_split : (h : ℕ → List ℕ) (i m n : ℕ) → flat_map h (range_with_len i (m + n)) ≡ flat_map h (range_with_len i m) ++ flat_map h (range_with_len (i + m) n)
 range_split h i zero n = rw (add-zero i, zero-add n) refl
 range_split h i (suc m) n =
     let offset : i + 1 + m ≡ i + suc m = omega arith in
     rw (suc-add m n, range_split h (i + 1) m n, offset) (sym (append_assoc (h i) _ _))
 
--- Ranges give the same if their offsets do.
+-- Two ranges give the same if their offsets do.
 pub range_same : (g h : ℕ → List ℕ) (a b n : ℕ) → ((k : ℕ) → k < n → g (a + k) ≡ h (b + k)) → flat_map g (range_with_len a n) ≡ flat_map h (range_with_len b n)
 range_same g h a b zero same = refl
 range_same g h a b (suc n) same =
@@ -52,7 +52,7 @@ range_same g h a b (suc n) same =
     ap g here ∙ same (k + 1) (omega arith) ∙ ap h there) in
     λ k. first k ++ rest k
 
--- One byte for each offset are as many.
+-- If each offset gives one byte, n offsets give n bytes.
 pub range_length : (h : ℕ → List ℕ) (a n : ℕ) → ((i : ℕ) → a ≤ i → i < a + n → length (h i) ≡ 1) → length (flat_map h (range_with_len a n)) ≡ n
 range_length h a zero one = refl
 range_length h a (suc n) one =
@@ -63,12 +63,12 @@ range_length h a (suc n) one =
       range_length h (a + 1) n (λ i low inside. one i (omega arith) (omega arith)),
     )
 
--- One byte at most for each are no more.
+-- If each offset gives at most one byte, n offsets give at most n bytes.
 pub range_few : (h : ℕ → List ℕ) (a n : ℕ) → ((i : ℕ) → length (h i) ≤ 1) → length (flat_map h (range_with_len a n)) ≤ n
 range_few h a zero few = omega arith
 range_few h a (suc n) few = omega (arith, length-append (h a) (flat_map h (range_with_len (a + 1) n)), few a, range_few h (a + 1) n few)
 
--- Where one byte is written for each of the last offsets, it is cut back by as many.
+-- If each of the last offsets gives one byte, as many bytes can be cut from the end.
 cut_back : (h : ℕ → List ℕ) (n m end last : ℕ) (old new : List ℕ) → n ≤ m → ((i : ℕ) → n ≤ i → i < m → length (h i) ≡ 1) →
     WritesAt (flat_map h (range_with_len 0 m)) end old new last →
     (m - n ≤ last) × (end ≤ length old → WritesAt (flat_map h (range_with_len 0 n)) end old new (last - (m - n)))
@@ -115,7 +115,7 @@ bits_are word n fits =
     ∙ sym (bit_mask_l ms i))
     (cases_lt i n))
 
--- Zeros for the lanes that pass a test.
+-- A select writes zeros to the lanes that pass a test.
 pub zeroed_of : (p : ℕ → Bool) (size : ℕ) (xs : List ℕ) → length xs ≡ size → sel_l (map p xs) (replicate size 0) xs ≡ map (λ x. cond (p x) 0 x) xs
 zeroed_of p size [] long = refl
 zeroed_of p zero (x ∷ xs) long = absurd (omega arith)
@@ -129,14 +129,14 @@ most_for : (t : Bool) (b : ℕ) → length (written_for false t b) ≤ 3
 most_for true b = omega arith
 most_for false b = omega arith
 
--- Three at most for each are no more than three times as many.
+-- If each offset gives at most three bytes, n offsets give at most 3n bytes.
 range_most : (h : ℕ → List ℕ) (a n : ℕ) → ((i : ℕ) → length (h i) ≤ 3) → length (flat_map h (range_with_len a n)) ≤ 3 * n
 range_most h a zero few = omega arith
 range_most h a (suc n) few = omega (arith, length-append (h a) (flat_map h (range_with_len (a + 1) n)), few a, range_most h (a + 1) n few)
 
 -- ---- C0 80
 
--- What is written for an offset, by the mask of C0 80.
+-- What is packed for an offset, by the mask of C0 80.
 abbrev pub null_packed : (bytes : List ℕ) (at nulls : ℕ) → ℕ → List ℕ
 null_packed bytes at nulls i =
     written_for (eqb (bit_at (nulls * 2 % 2 ^ 64) i) 1) false (cond (eqb (get_or bytes (at + i) 0) 0xC0) 0 (get_or bytes (at + i) 0))
@@ -185,7 +185,7 @@ module _ (f : Flavor) (bytes : List ℕ) (at : ℕ) (window : Window) (is : IsWi
   second_packed : (i : ℕ) → bit_at left_out i ≡ 1 → packed i ≡ []
   second_packed i set = rw set refl
 
-  -- From an offset on that is not the second of C0 80, the bytes are packed.
+  -- From an offset that is not the second byte of C0 80, what is packed is what decoding writes.
   packed_from : (m r i : ℕ) → r ≤ m → i + r ≡ window.len → bit_at left_out i ≡ 0 → ((j : ℕ) → i ≡ j + 1 → is_null_at f bytes (at + j) ≡ false) →
       flat_map packed (range_with_len i r) ≡ decoded f (window_of bytes) (at + i) r
   unfolding decoded
@@ -232,13 +232,13 @@ module _ (f : Flavor) (bytes : List ℕ) (at : ℕ) (window : Window) (is : IsWi
       (λ k. first k ++ rest k))
       (cases_eq (bit_at window.nulls i) 1)
 
-  -- So are all of the window,
+  -- What is packed for the window is what decoding writes for it.
   pub packed_all : flat_map packed (range_with_len 0 window.len) ≡ decoded f (window_of bytes) at window.len
   packed_all =
       packed_from window.len window.len 0 (omega arith) (omega arith) (shifted_first window.nulls) (λ j never. absurd (omega arith))
       ∙ ap (λ k. decoded f (window_of bytes) k window.len) (add-zero at)
 
-  -- and one byte is written for each after it.
+  -- For each offset after the window one byte is packed.
   one_after : (i : ℕ) → window.len ≤ i → i < 64 → length (packed i) ≡ 1
   one_after i past small =
       let clear : bit_at left_out i ≡ 0 =
@@ -257,11 +257,11 @@ module _ (f : Flavor) (bytes : List ℕ) (at : ℕ) (window : Window) (is : IsWi
       written_clear clear = rw clear refl
 
   module _ (m end last : ℕ) (old new : List ℕ) (covered : window.len ≤ m) (small : m ≤ 64) (text : WritesAt (flat_map packed (range_with_len 0 m)) end old new last) where
-    -- As many bytes are stored as follow the window, at least.
+    -- At least as many bytes are stored as there are offsets after the window.
     pub after_window : m - window.len ≤ last
     after_window = (cut_back packed window.len m end last old new covered (λ i past inside. one_after i past (omega arith)) text).0
 
-    -- What is stored without these is what the window becomes.
+    -- What is stored, without the bytes after the window, is what decoding writes for the window.
     pub window_written : end ≤ length old → WritesAt (decoded f (window_of bytes) at window.len) end old new (last - (m - window.len))
     window_written room =
         subst (λ bs. WritesAt bs end old new (last - (m - window.len))) packed_all
@@ -287,7 +287,7 @@ module _ (f : Flavor) (bytes : List ℕ) (at : ℕ) (window : Window) (is : IsWi
       let bit = ap (bit_at (left_out / 2 ^ k)) here ∙ rest_bit left_out k fits j in
       (λ q. written_for (eqb (bit q) 1) false (cond (eqb (get_or bytes (offset q) 0) 0xC0) 0 (get_or bytes (offset q) 0))))
 
-  -- So the next block is written after those before.
+  -- The next block is stored after the blocks before it.
   pub block_written : (k end middle last : ℕ) (block old mid new : List ℕ) → k + 32 ≤ 64 → block ≡ map (λ b. cond (eqb b 0xC0) 0 b) (chunk (at + k) 32 bytes) →
       WritesAt (flat_map packed (range_with_len 0 k)) end old mid middle →
       ((tests : List Bool) → 32 ≤ length tests → left_out / 2 ^ k ≡ mask_l tests → WritesAt (written (take 32 tests) (replicate 32 false) block) middle mid new last) →
@@ -308,7 +308,7 @@ module _ (f : Flavor) (bytes : List ℕ) (at : ℕ) (window : Window) (is : IsWi
 
 -- ---- replacement characters
 
--- What is written for an offset, by the mask of ill-formed bytes.
+-- What is packed for an offset, by the mask of ill-formed bytes.
 abbrev pub replaced : (bytes : List ℕ) (at ill : ℕ) → ℕ → List ℕ
 replaced bytes at ill i = written_for false (eqb (bit_at ill i) 1) (get_or bytes (at + i) 0)
 
@@ -335,7 +335,8 @@ module _ (f : Flavor) (bytes : List ℕ) (at : ℕ) (window : Window) (is : IsWi
   kept_one : (i : ℕ) → bit_at window.ill_formed i ≡ 0 → stored i ≡ get_or bytes (at + i) 0 ∷ []
   kept_one i clear = rw clear refl
 
-  -- Each byte is replaced, or becomes itself.
+  -- What is packed for an offset is what decoding writes for it: the replacement character, or the
+  -- byte itself.
   stored_at : (i : ℕ) → i < window.len → stored i ≡ decoded_at f (window_of bytes) (at + i)
   stored_at i inside =
       ⊎_elim (λ (set : bit_at window.ill_formed i ≡ 1).
@@ -363,11 +364,11 @@ module _ (f : Flavor) (bytes : List ℕ) (at : ℕ) (window : Window) (is : IsWi
       omega (arith, past, is.len, (marked window.ill_formed (is_ill_formed_at f (window_of bytes)) at is.n is.ill_formed i set).0))))
 
   module _ (m end last : ℕ) (old new : List ℕ) (covered : window.len ≤ m) (text : WritesAt (flat_map stored (range_with_len 0 m)) end old new last) where
-    -- As many bytes are stored as follow the window, at least.
+    -- At least as many bytes are stored as there are offsets after the window.
     pub replaced_after : m - window.len ≤ last
     replaced_after = (cut_back stored window.len m end last old new covered (λ i past inside. one_stored i past) text).0
 
-    -- What is stored without these is what the window becomes.
+    -- What is stored, without the bytes after the window, is what decoding writes for the window.
     pub replaced_written : end ≤ length old → WritesAt (decoded f (window_of bytes) at window.len) end old new (last - (m - window.len))
     replaced_written room =
         subst (λ bs. WritesAt bs end old new (last - (m - window.len))) stored_all
@@ -379,7 +380,7 @@ module _ (f : Flavor) (bytes : List ℕ) (at : ℕ) (window : Window) (is : IsWi
       let bits = ap (λ k. 2 ^ k) (length-map-range_with_len t at is.n) in
       omega (arith, is.ill_formed, mask_l-lt (map t (range_with_len at is.n)), bits, pow_mono is.few)
 
-  -- The next sixteen bytes are written after those before.
+  -- The next sixteen bytes are stored after those before them.
   pub half_written : (k end middle last : ℕ) (half old mid new : List ℕ) → k + 16 ≤ 64 → half ≡ chunk (at + k) 16 bytes →
       WritesAt (flat_map stored (range_with_len 0 k)) end old mid middle →
       ((tests : List Bool) → 16 ≤ length tests → window.ill_formed / 2 ^ k ≡ mask_l tests → WritesAt (written (replicate 16 false) (take 16 tests) half) middle mid new last) →

@@ -1,4 +1,4 @@
--- How the shuffles of four bytes replace those that are ill-formed.
+-- The shuffles that put replacement characters in place of ill-formed bytes, four bytes at a time.
 use Rattle.std.proofs.Common.{◌≡◌, ℕ, ◌+◌, ◌-◌, ◌/◌, ◌%◌, ◌^◌, ◌<◌, ◌≤◌, Bool, true, false, eqb, List, [], ◌∷◌, ◌++◌, length, take, drop, get_or, replicate, refl, sym, ap, ◌∙◌, arith, length-drop, bit_and}
 use Rattle.std.proofs.lemmas.Bool.{agree_below_at, and_parts, eqb-true}
 use Rattle.std.proofs.lemmas.List.{length-take, length-take-le, take-take, drop-take}
@@ -24,7 +24,7 @@ same_list_is (x ∷ xs) (y ∷ ys) e =
 abbrev pub kept_by : ℕ → List ℕ
 kept_by set = kept_of 0 set 0 4
 
--- Each row has the shuffle for its number.
+-- Each row of the table is the shuffle for its number.
 pub rows_are : (set : ℕ) → set < 0x10 → get_or ROWS set [] ≡ shuffle_keeping (kept_of 0 set 0 4)
 unfolding same_list same_rows
 rows_are set small =
@@ -36,16 +36,16 @@ unfolding is_short
 few_of_four = at_most kept_by 12 refl
 
 module _ (row : List ℕ) (set : ℕ) (small : set < 0x10) (row_is : row ≡ shuffle_keeping (kept_of 0 set 0 4)) where
-  -- It packs twelve bytes at most,
+  -- A row packs at most twelve bytes.
   pub end_of_four : get_or row 15 0 ≤ 12
   end_of_four = end_of_row 4 0 set 12 row row_is (few_of_four set (omega arith)) (omega arith)
 
-  -- and these are written.
+  -- What a row packs is what is written for the four bytes.
   pub four_written : (lanes out packed : List ℕ) (at : ℕ) → at + 16 ≤ length out → packed ≡ lanes_at lanes row →
       WritesAt (lanes_at lanes (kept_of 0 set 0 4)) at out (put_chunk at out packed) (at + get_or row 15 0)
   four_written = row_written 4 0 set 12 row row_is (few_of_four set (omega arith)) (omega arith)
 
--- Lanes of four bytes, which a replacement character follows.
+-- The lanes hold four bytes, and then a replacement character.
 abbrev pub HasFour : (lanes four : List ℕ) → Type 0
 HasFour lanes four = (chunk 0 4 lanes ≡ four) × (chunk 4 3 lanes ≡ 0xEF ∷ 0xBF ∷ 0xBD ∷ [])
 
@@ -61,7 +61,7 @@ chunk_take : (a n m : ℕ) (xs : List Bool) → a + n ≤ m → chunk a n (take 
 chunk_take a n m xs le =
     ap (λ k. chunk a n (take k xs)) (omega arith) ∙ ap (take n) (drop-take a (m - a) xs) ∙ take-take n (m - a) (drop a xs) (omega arith)
 
--- Four bits of a set are those of four tests.
+-- Four bits of a mask are those of four tests.
 four_bits : (a : ℕ) (tests : List Bool) (set : ℕ) → a + 4 ≤ length tests → set ≡ mask_l tests → bit_and (set / 2 ^ a) 0x0F ≡ mask_l (chunk a 4 tests)
 four_bits a tests set le is =
     and_mask (set / 2 ^ a) 4
@@ -71,7 +71,7 @@ four_bits a tests set le is =
 first_bits : (tests : List Bool) (set : ℕ) → 4 ≤ length tests → set ≡ mask_l tests → bit_and set 0x0F ≡ mask_l (chunk 0 4 tests)
 first_bits tests set le is = and_mask set 4 ∙ ap (λ m. m % 0x10) is ∙ mask_prefix 4 tests le
 
--- What is kept of four times four lanes is what is written for sixteen.
+-- What is packed for four times four lanes is what is written for sixteen.
 pub kept_of_half : (tests : List Bool) (bytes : List ℕ) (set : ℕ) (v0 v1 v2 v3 : List ℕ) → 16 ≤ length tests → length bytes ≡ 16 → set ≡ mask_l tests →
     HasFour v0 (chunk 0 4 bytes) → HasFour v1 (chunk 4 4 bytes) → HasFour v2 (chunk 8 4 bytes) → HasFour v3 (chunk 12 4 bytes) →
     lanes_at v0 (kept_of 0 (bit_and set 0x0F) 0 4) ++ (lanes_at v1 (kept_of 0 (bit_and (set / 2 ^ 4) 0x0F) 0 4)

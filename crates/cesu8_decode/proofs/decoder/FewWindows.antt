@@ -1,4 +1,4 @@
--- The window of at most 64 bytes, and zeros after them.
+-- The window of at most 64 bytes, with zeros after them.
 use Rattle.std.proofs.Common.{◌≡◌, ℕ, ◌+◌, ◌^◌, ◌<◌, ◌≤◌, ⊎_elim, Bool, true, false, not, ◌&&◌, ◌||◌, eqb, ltb, List, ◌++◌, length, take, replicate, get_or, bit_and, sym, ap, ◌∙◌, arith, w64, zero-add}
 use Rattle.std.specs.Int.{bit_not}
 use Rattle.std.proofs.lemmas.Bool.{cases_lt, le-ltb}
@@ -19,11 +19,11 @@ use Rattle.cesu8_decode.proofs.decoder.MaskBits.{and_bits, without_bits, no_bits
 use Rattle.cesu8_decode.proofs.decoder.MaskTests.{pair_alone, pair_width, no_null_of}
 use Rattle.cesu8_decode.proofs.decoder.WindowEnds.{ends_at_zero, boundary_at_zero}
 
--- Zeros after the bytes change nothing that is read, also past their end.
+-- Bytes with zeros after them agree with the bytes at every offset, also after their end.
 pub alike_with_zeros : (bytes source : List ℕ) (m : ℕ) → source ≡ bytes ++ replicate m 0 → (k : ℕ) → get_or source k 0 ≡ get_or bytes k 0
 alike_with_zeros bytes source m is k = ap (λ bs. get_or bs k 0) is ∙ padded bytes (replicate m 0) (zeros_at m) k
 
--- If all bytes from an offset on are zeros, the bytes before it are read like all.
+-- Bytes without the zeros at their end agree with the bytes at every offset.
 pub alike_without_zeros : (source : List ℕ) (n : ℕ) → n ≤ length source → ((i : ℕ) → n ≤ i → get_or source i 0 ≡ 0) → (k : ℕ) →
     get_or (take n source) k 0 ≡ get_or source k 0
 alike_without_zeros source n fits zeros k =
@@ -31,11 +31,11 @@ alike_without_zeros source n fits zeros k =
     (λ (past : n ≤ k). get_or_past (take n source) k 0 (omega (arith, past, length-take-le n source fits)) ∙ sym (zeros k past))
     (cases_lt k n)
 
--- A window of all bytes ends with them.
+-- A window of all bytes ends at their end.
 pub ends_with_bytes : (f : Flavor) (bytes : List ℕ) (window : Window) (is : IsWindow f bytes 0 window) → is.n ≡ length bytes → window.len ≡ length bytes
 ends_with_bytes f bytes window is all = ends_at_zero f bytes 0 window is (get_or_past bytes (0 + is.n) 0 (omega (arith, all))) ∙ all
 
--- A window of some bytes is also one of other bytes, if at each offset the same byte is read.
+-- A window of some bytes is a window of all bytes that agree with them.
 pub window_of_alike : (f : Flavor) (a b : List ℕ) (at : ℕ) (window : Window) → ((k : ℕ) → get_or a k 0 ≡ get_or b k 0) → IsWindow f a at window →
     IsWindow f b at window
 window_of_alike f a b at window alike is = record {
@@ -62,9 +62,9 @@ window_of_alike f a b at window alike is = record {
     ill_formed : (i : ℕ) → is_ill_formed_at f (window_of a) i ≡ is_ill_formed_at f (window_of b) i
     ill_formed i = ill_formed_agrees f (window_of a) (window_of b) i i (λ k _. windows_alike a b alike (i + k))
 
--- ---- the window by the characters that change
+-- ---- the window from the characters that need conversion
 
--- A pair is not the null of MUTF-8, and C0 tells them apart.
+-- At the start of C0 80 no surrogate pair begins, since the first bytes differ.
 pair_not_null : (f : Flavor) (bytes : List ℕ) (i : ℕ) → is_pair_at f bytes i ≡ true → is_null_at f bytes i ≡ false
 pair_not_null f bytes i pair =
     let b = λ (k : ℕ). get_or bytes k 0 in
@@ -96,7 +96,7 @@ module _ (f : Flavor) (bytes : List ℕ) (changed : ℕ) (given : AreChanges f b
   of_changed : HasBits changed (λ i. ltb i n && is_changed_at f bytes (0 + i))
   of_changed = bits_from (is_changed_at f bytes) 0 n given.marks
 
-  -- In MUTF-8 those of them that C0 begins are C0 80,
+  -- In MUTF-8, those of these characters that begin with C0 are C0 80.
   pub nulls_of_changed : (lanes : List ℕ) (c0 : ℕ) → ((i : ℕ) → i < n → get_or lanes i 0 ≡ get_or bytes i 0) → HasBits c0 (λ i. eqb (get_or lanes i 0) 0xC0) →
       HasBits (bit_and changed c0) (λ i. ltb i n && is_null_at f bytes (0 + i))
   nulls_of_changed lanes c0 alike of_c0 = told_by (λ i. ltb i n && is_null_at f bytes (0 + i)) tested (and_bits of_changed of_c0)
@@ -113,13 +113,13 @@ module _ (f : Flavor) (bytes : List ℕ) (changed : ℕ) (given : AreChanges f b
           ∙ ap (λ t. t && is_null_at f bytes (0 + i)) (sym (le-ltb i n past)))
           (cases_lt i n)
 
-  -- and CESU-8 has none.
+  -- CESU-8 has no C0 80.
   pub no_nulls_of_changed : (f ≡ Mutf8 → ⊥) → HasBits 0 (λ i. ltb i n && is_null_at f bytes (0 + i))
   no_nulls_of_changed other =
       told_by (λ i. ltb i n && is_null_at f bytes (0 + i))
       (λ i. sym (ap (λ t. ltb i n && t) (no_null_of f (get_or bytes (0 + i) 0) (get_or bytes (0 + i + 1) 0) other) ∙ dropped (ltb i n))) no_bits
 
-  -- The others are pairs, and no byte of the window is ill-formed.
+  -- The others are surrogate pairs, and no byte of the window is ill-formed.
   pub changed_is_window : (nulls : ℕ) → n ≤ 64 → changed < 2 ^ 64 → nulls < 2 ^ 64 → HasBits nulls (λ i. ltb i n && is_null_at f bytes (0 + i)) →
       IsWindow f bytes 0 (record { ill_formed = 0; pairs = bit_and changed (bit_not w64 nulls); nulls = nulls; len = n })
   changed_is_window nulls few changed_fits nulls_fit of_nulls = record {

@@ -1,4 +1,4 @@
--- What the bits of tests tell of the lanes of a vector.
+-- What the bits of a mask say about the lanes of a vector.
 use Rattle.std.proofs.Common.{◌≡◌, ℕ, zero, suc, ◌+◌, ◌<◌, ◌≤◌, Bool, false, leb, List, ◌∷◌, ◌++◌, refl, sym, ap, ◌∙◌, arith, map, length, replicate, append-nil, get_or, take_all, Fits, w8}
 use Rattle.std.specs.List.{range_with_len}
 use Rattle.std.proofs.lemmas.Bool.{cases_Bool, leb-false}
@@ -12,7 +12,7 @@ no_bits : (m : ℕ) → mask_l (replicate m false) ≡ 0
 no_bits zero = refl
 no_bits (suc m) = omega (arith, no_bits m)
 
--- Where the bits of tests are all 0, none holds.
+-- If all bits are 0, no lane passes the test.
 pub no_bit : (p : ℕ → Bool) (a n m : ℕ) → mask_l (map p (range_with_len a n) ++ replicate m false) ≡ 0 →
     (i : ℕ) → a ≤ i → i < a + n → p i ≡ false
 no_bit p a zero m none i from before = absurd (omega arith)
@@ -21,14 +21,14 @@ no_bit p a (suc n) m none i from before = grind (arith, cases_Bool, no_bit p (a 
 pub no_lane : (p : ℕ → Bool) (a n : ℕ) → mask_l (map p (range_with_len a n)) ≡ 0 → (i : ℕ) → a ≤ i → i < a + n → p i ≡ false
 no_lane p a n none = no_bit p a n 0 (ap mask_l (append-nil (map p (range_with_len a n))) ∙ none)
 
--- so the bytes of a window are below one that none of their lanes reaches.
+-- If no lane reaches a number, all bytes of the window there are less than it.
 pub all_below : (window : List ℕ) (least at n : ℕ) → at + n ≤ length window → mask_l (map (leb least) (chunk at n window)) ≡ 0 →
     (i : ℕ) → at ≤ i → i < at + n → get_or window i 0 < least
 all_below window least at n room none i low inside =
     let lanes = sym (map-map (leb least) (λ i. get_or window i 0) (range_with_len at n)) ∙ ap (map (leb least)) (pick_l-range_with_len 0 window at n room) in
     leb-false least _ (no_lane (λ i. leb least (get_or window i 0)) at n (ap mask_l lanes ∙ none) i low inside)
 
--- Maps over a range agree where their lanes do.
+-- Maps over a range agree if they agree at each offset.
 pub on_range : {X : Type 0} (g h : ℕ → X) (a n : ℕ) → ((i : ℕ) → a ≤ i → i < a + n → g i ≡ h i) →
     map g (range_with_len a n) ≡ map h (range_with_len a n)
 on_range g h a zero same = refl
@@ -39,10 +39,10 @@ on_range g h a (suc n) same =
 
 -- ---- the lanes of a vector
 
--- They are those at its indices,
+-- A vector is the list of its lanes by index.
 pub lanes_are : (lanes : List ℕ) → length lanes ≡ 32 → lanes ≡ map (λ i. get_or lanes i 0) (range_with_len 0 32)
 lanes_are lanes long = sym (take_all 32 lanes (omega (arith, long))) ∙ loaded lanes 0 0 32 (omega (arith, long))
 
--- and bytes.
+-- Each lane is a byte.
 pub lane_fits : (lanes : List ℕ) → length lanes ≡ 32 → Each1 (Fits w8) lanes → (i : ℕ) → i < 0 + 32 → get_or lanes i 0 < 0x100
 lane_fits lanes long fits i inside = (Each1-get_or (Fits w8) lanes i 0 (omega (arith, long, inside)) fits).fits

@@ -1,4 +1,4 @@
--- Which bytes of a block may follow those before them.
+-- Which bytes of a block can follow the bytes before them.
 use Rattle.std.proofs.Common.{◌≡◌, ℕ, suc, ◌+◌, ◌<◌, ◌≤◌, ◌||◌, ⊎_elim, Bool, true, false, cond, List, [], ◌∷◌, map, length, get_or, replicate, eqb, leb, ltb, bit_or, refl, sym, ap, ◌∙◌, subst, arith, drop, ◌-◌, ◌++◌, not, add-zero, take}
 use Rattle.std.specs.List.{range_with_len, prefix_len}
 use Rattle.std.proofs.lemmas.Bool.{agree_below_at, leb-false, ltb-true, not-false, not-true, or_parts, cases_lt}
@@ -18,9 +18,9 @@ use Rattle.cesu8_bytes.proofs.vectors.Loads.{loaded}
 use Rattle.cesu8_decode.proofs.decoder.FirstLanes.{no_lane, on_range}
 use Rattle.std.proofs.lemmas.Nat.{le_or_l, le_or_r, or_lt}
 
--- ---- whether they show it
+-- ---- the error mask
 
--- The highest bit is set where one of two has it.
+-- The highest bit of a | b is set if a or b has it.
 high_or : (a b : ℕ) → leb 0x80 (bit_or a b) ≡ (leb 0x80 a || leb 0x80 b)
 high_or a b = grind (arith, nat_tests, or_lt 7 a b, le_or_l a b, le_or_r a b)
 
@@ -30,7 +30,8 @@ unlike t = grind arith
 of_mask : (t : Bool) → leb 0x80 (mask t) ≡ t
 of_mask t = grind arith
 
--- A byte, below 80 (hexadecimal) only where it is a character of one byte.
+-- The byte itself if it is a character of one byte, which is less than 80 (hexadecimal), and
+-- otherwise a number of at least 80.
 abbrev pub marked_if_not_one : Flavor → ℕ → ℕ
 marked_if_not_one f b = bit_or b (cond (is_null f b) 0xFF 0)
 
@@ -44,7 +45,7 @@ ascii_fits : (s : CharacterSet) (f : Flavor) (a b d e g : ℕ) → a < 0x80 → 
 unfolding shown
 ascii_fits s f a b d e g a_low b_low d_low e_low g_low no_null = grind (arith, nat_tests)
 
--- What marks lanes are tests that they pass.
+-- The lanes of a mask are marked exactly if the test passes.
 pub marks_are : (t : ℕ → Bool) (lanes ns : List ℕ) → lanes ≡ map (λ i. mask (t i)) ns → map (leb 0x80) lanes ≡ map t ns
 marks_are t lanes ns is =
     ap (map (leb 0x80)) is ∙ map-map (leb 0x80) (λ i. mask (t i)) ns ∙ ap (λ test. map test ns) (λ i k. of_mask (t k) i)
@@ -63,7 +64,8 @@ second_alike g alike (x ∷ xs) [] (v ∷ vs) long = absurd (omega (arith, long)
 second_alike g alike (x ∷ xs) (y ∷ ys) [] long = absurd (omega (arith, long))
 second_alike g alike (x ∷ xs) (y ∷ ys) (v ∷ vs) long = (λ i. alike x y v i ∷ second_alike g alike xs ys vs (omega (arith, long)) i)
 
--- What a block's bytes want does not rest on those before that the set does not need.
+-- The class that a block's bytes are required to have does not depend on earlier bytes that the set
+-- does not need.
 wanted_by_needed : (s : CharacterSet) (window : List ℕ) (at : ℕ) (block : Block) → IsBlockAt s window at block → length block.four_before ≡ 32 → length block.three_before ≡ 32 →
     zip2 (wanted s) block.four_before block.three_before ≡ zip2 (wanted s) (chunk at 32 window) (chunk (at + 1) 32 window)
 wanted_by_needed Encoded window at block is long_four long_three = rw (is.four_before refl, is.three_before refl) refl
@@ -72,7 +74,7 @@ wanted_by_needed Unchanged window at block is long_four long_three =
     ∙ second_alike (wanted Unchanged) (λ a b d. refl) (chunk at 32 window) block.three_before (chunk (at + 1) 32 window)
     (long_three ∙ sym (length-chunk (at + 1) 32 window (omega (arith, is.room))))
 
--- The vectors of a block tell which bytes may not follow those before them.
+-- The vectors of a block give the error mask: the bytes that cannot follow the bytes before them.
 pub misplaced_are : (s : CharacterSet) (f : Flavor) (window : List ℕ) (at : ℕ) (block : Block) → IsBlockAt s window at block →
     length block.four_before ≡ 32 → length block.three_before ≡ 32 → (here want : List ℕ) → here ≡ zip2 (shown s f) block.one_before block.bytes →
     want ≡ zip2 (λ want d. want d) (zip2 (wanted s) block.four_before block.three_before) block.two_before →
@@ -91,7 +93,7 @@ misplaced_are s f window at block is long_four long_three here want here_is by_b
     ) (on_range (λ i. cond (top 7 (ones (follows_at s f window i))) 0 0xFF) (λ i. mask (not (follows_at s f window i))) at 32
     (λ i low inside. unlike (follows_at s f window i)))
 
--- Bytes that are marked where they are no characters of one byte,
+-- Bytes joined with the mask of nulls are marked unless they are characters of one byte.
 pub marked_are : (f : Flavor) (bytes nulls : List ℕ) → nulls ≡ map (λ b. mask (is_null f b)) bytes →
     zip2 bit_or bytes nulls ≡ map (marked_if_not_one f) bytes
 marked_are f bytes nulls is = rw is (each bytes)
@@ -100,21 +102,21 @@ marked_are f bytes nulls is = rw is (each bytes)
     each [] = refl
     each (b ∷ bytes) = ap (λ l. marked_if_not_one f b ∷ l) (each bytes)
 
--- by their offsets.
+-- Which bytes are marked, by their offsets.
 pub marked_at : (f : Flavor) (window : List ℕ) (at : ℕ) → at + 36 ≤ length window → (lanes : List ℕ) →
     lanes ≡ map (marked_if_not_one f) (chunk (at + 4) 32 window) → lanes ≡ map (λ i. marked_if_not_one f (get_or window (i + 4) 0)) (range_with_len at 32)
 marked_at f window at room lanes lanes_are =
     lanes_are ∙ ap (map (marked_if_not_one f)) (loaded window at 4 32 (omega (arith, room)))
     ∙ map-map (marked_if_not_one f) (λ i. get_or window (i + 4) 0) (range_with_len at 32)
 
--- Where none is marked, each may follow those before it:
+-- If no lane of the error mask is marked, each byte can follow the bytes before it.
 module _ (s : CharacterSet) (f : Flavor) (window : List ℕ) (at n : ℕ) where
   pub none_misplaced : (lanes : List ℕ) → lanes ≡ map (λ i. mask (not (follows_at s f window i))) (range_with_len at n) →
       mask_l (map (leb 0x80) lanes) ≡ 0 → AllFollow s f window at n
   none_misplaced lanes lanes_are none i low inside =
       not-false _ (no_lane (λ i. not (follows_at s f window i)) at n (sym (ap mask_l (marks_are _ lanes (range_with_len at n) lanes_are)) ∙ none) i low inside)
 
-  -- The bytes behind four of ASCII are ASCII too,
+  -- If no lane is marked as other than a character of one byte, all bytes are ASCII and no null.
   pub low_bytes : (lanes : List ℕ) → lanes ≡ map (λ i. marked_if_not_one f (get_or window (i + 4) 0)) (range_with_len at n) →
       mask_l (map (leb 0x80) lanes) ≡ 0 → (i : ℕ) → at + 4 ≤ i → i < at + n + 4 → (get_or window i 0 < 0x80) × (is_null f (get_or window i 0) ≡ false)
   low_bytes lanes lanes_are none i low inside =
@@ -124,13 +126,13 @@ module _ (s : CharacterSet) (f : Flavor) (window : List ℕ) (at n : ℕ) where
       subst (λ k. (get_or window k 0 < 0x80) × (is_null f (get_or window k 0) ≡ false)) offset
       (low_lane f _ (no_lane (λ i. leb 0x80 (g i)) at n (ap mask_l bits ∙ none) (i - 4) (omega arith) (omega arith)))
 
-  -- and each may follow.
+  -- If the four bytes before are ASCII too, each byte can follow the bytes before it.
   pub all_plain : (lanes : List ℕ) → lanes ≡ map (λ i. marked_if_not_one f (get_or window (i + 4) 0)) (range_with_len at n) →
       ((i : ℕ) → at ≤ i → i < at + 4 → get_or window i 0 < 0x80) → mask_l (map (leb 0x80) lanes) ≡ 0 → AllFollow s f window at n
   all_plain lanes lanes_are first none i low inside =
       let others = low_bytes lanes lanes_are none in grind (arith, ascii_fits)
 
--- No lane of two is marked if none of both together is.
+-- If no lane of two vectors joined is marked, none of either vector is.
 pub none_of_two : (xs ys : List ℕ) → length xs ≡ length ys → mask_l (map (leb 0x80) (zip2 bit_or xs ys)) ≡ 0 →
     (mask_l (map (leb 0x80) xs) ≡ 0) × (mask_l (map (leb 0x80) ys) ≡ 0)
 none_of_two [] [] e none = (refl, refl)
@@ -138,7 +140,7 @@ none_of_two [] (y ∷ ys) e none = absurd (omega arith)
 none_of_two (x ∷ xs) [] e none = absurd (omega arith)
 none_of_two (x ∷ xs) (y ∷ ys) e none = grind (arith, high_or x y, none_of_two xs ys (omega arith))
 
--- What holds of two blocks holds of both together.
+-- If all bytes of two successive blocks can follow the bytes before them, all 64 can.
 pub in_both : (s : CharacterSet) (f : Flavor) (window : List ℕ) (at : ℕ) → AllFollow s f window at 32 → AllFollow s f window (at + 32) 32 →
     AllFollow s f window at 64
 in_both s f window at first second i low inside =
@@ -153,9 +155,9 @@ two_plain s f window at xs ys xs_are ys_are first none_first none_second =
     in_both s f window at (all_plain s f window at 32 xs xs_are first none_first)
     (all_plain s f window (at + 32) 32 ys ys_are (λ i low inside. (low_bytes s f window at 32 xs xs_are none_first i (omega arith) (omega arith)).0) none_second)
 
--- ---- the first that may not follow
+-- ---- the first byte that cannot follow
 
--- The lanes before the first that is marked are those of bytes that may follow,
+-- The bytes before the first marked lane can follow the bytes before them.
 module _ (s : CharacterSet) (f : Flavor) (window : List ℕ) (at n len : ℕ) (lanes : List ℕ)
     (are : lanes ≡ map (λ i. mask (not (follows_at s f window i))) (range_with_len at n)) (is : len ≡ prefix_len (λ b. not (leb 0x80 b)) lanes) where
   long : length lanes ≡ n
@@ -176,15 +178,15 @@ module _ (s : CharacterSet) (f : Flavor) (window : List ℕ) (at n len : ℕ) (l
       subst (λ i. follows_at s f window i ≡ true) place
       (not-false _ (sym (ap (leb 0x80) (lane k (omega (arith, within))) ∙ of_mask _) ∙ lane_low))
 
-  -- and that lane is one of a byte that may not.
+  -- The byte of the first marked lane cannot follow the bytes before it.
   pub stopped : len < n → follows_at s f window (at + len) ≡ false
   stopped more =
       let high = not-false _ (ap (λ k. not (leb 0x80 (get_or lanes k 0))) is ∙ prefix_len_stops (λ b. not (leb 0x80 b)) lanes 0 (omega (arith, is, long, more))) in
       not-true _ (sym (ap (leb 0x80) (lane len more) ∙ of_mask _) ∙ high)
 
--- ---- where a block stands
+-- ---- the place of a block
 
--- Whether a byte may follow those before it rests on five bytes.
+-- Whether a byte can follow depends on five bytes.
 pub follows_agrees : (s : CharacterSet) (f : Flavor) (a b : List ℕ) (i j : ℕ) → ((k : ℕ) → k < 5 → get_or a (i + k) 0 ≡ get_or b (j + k) 0) →
     follows_at s f a i ≡ follows_at s f b j
 follows_agrees s f a b i j agree =
@@ -196,15 +198,15 @@ behind_fillers bytes i =
     let offset : i + 4 ≡ suc (suc (suc (suc i))) = omega arith in
     ap (λ p. get_or (after_fillers bytes) p 0) offset
 
--- What holds of a byte where it stands holds of it behind the fillers.
+-- Whether a byte can follow is the same in the bytes and after the four zeros.
 pub follows_behind : (s : CharacterSet) (f : Flavor) (bytes : List ℕ) (i : ℕ) → follows_at s f (after_fillers bytes) (i + 4) ≡ follows_at s f bytes i
 follows_behind s f bytes i =
     follows_agrees s f (after_fillers bytes) bytes (i + 4) i (λ k few.
     let there : i + 4 + k ≡ i + k + 4 = omega arith in ap (λ p. get_or (after_fillers bytes) p 0) there ∙ behind_fillers bytes (i + k))
 
--- ---- a front
+-- ---- a prefix
 
--- What holds of a block where it stands holds of the bytes behind the fillers.
+-- Bytes of a block that can follow the bytes before them can also follow them after the four zeros.
 pub follow_behind : (s : CharacterSet) (f : Flavor) (bytes : List ℕ) (at n : ℕ) → AllFollow s f bytes at n →
     (i : ℕ) → at + 4 ≤ i → i < at + n + 4 → follows_at s f (after_fillers bytes) i ≡ true
 follow_behind s f bytes at n each i low inside =
@@ -212,7 +214,8 @@ follow_behind s f bytes at n each i low inside =
     subst (λ k. follows_at s f (after_fillers bytes) k ≡ true) place
     (follows_behind s f bytes (i - 4) ∙ each (i - 4) (omega arith) (omega arith))
 
--- So they may follow each other up to the end of a block if they do up to its start.
+-- If the bytes up to the start of a block can follow each other, and those of the block can, the
+-- bytes up to its end can.
 pub follow_up_to : (s : CharacterSet) (f : Flavor) (bytes : List ℕ) (start at n : ℕ) → FirstFollow s f bytes start → at + 4 ≤ start →
     at + n + 4 ≤ length bytes → AllFollow s f bytes at n → FirstFollow s f bytes (at + n + 4)
 follow_up_to s f bytes start at n before near room each = record {
@@ -221,7 +224,7 @@ follow_up_to s f bytes start at n before near room each = record {
       ⊎_elim (λ (first : i < start). before.follow i first) (λ (later : start ≤ i). follow_behind s f bytes at n each i (omega arith) inside) (cases_lt i start);
 }
 
--- So does where they end, if the next byte may not follow.
+-- If the next byte cannot follow, the prefix of bytes that can ends there.
 pub stop_behind : (s : CharacterSet) (f : Flavor) (bytes : List ℕ) (start at n : ℕ) → FirstFollow s f bytes start → at + 4 ≤ start →
     at + n + 4 ≤ length bytes → AllFollow s f bytes at n → (at + n + 4 < length bytes → follows_at s f bytes (at + n) ≡ false) → FollowUpTo s f bytes (at + n + 4)
 stop_behind s f bytes start at n before near room each stops = record {
@@ -229,7 +232,7 @@ stop_behind s f bytes start at n before near room each stops = record {
   stops = λ more. follows_behind s f bytes (at + n) ∙ stops more;
 }
 
--- Bytes at the front are the same with others behind them.
+-- Whether a byte of a prefix can follow does not depend on the bytes after the prefix.
 follows_in_front : (s : CharacterSet) (f : Flavor) (bytes : List ℕ) (m k : ℕ) → m ≤ length bytes → k < m →
     follows_at s f (after_fillers bytes) k ≡ follows_at s f (after_fillers (take m bytes)) k
 follows_in_front s f bytes m k fits inside =
@@ -238,7 +241,7 @@ follows_in_front s f bytes m k fits inside =
     ∙ follows_agrees s f (after_fillers (take m bytes ++ drop m bytes)) (after_fillers (take m bytes)) k k
     (λ j few. get_or_append_left (after_fillers (take m bytes)) (drop m bytes) 0 (k + j) (omega arith))
 
--- What is found of bytes at the front is found of more,
+-- If the first n bytes of a prefix can follow each other, they can in all bytes.
 pub first_of_front : (s : CharacterSet) (f : Flavor) (bytes : List ℕ) (m n : ℕ) → m ≤ length bytes → FirstFollow s f (take m bytes) n → FirstFollow s f bytes n
 first_of_front s f bytes m n fits first =
     let long = length-take-le m bytes fits in
@@ -253,7 +256,7 @@ stop_in_front s f bytes m n fits before up_to = record {
   stops = λ more. follows_in_front s f bytes m n fits before ∙ up_to.stops (omega (arith, before, length-take-le m bytes fits));
 }
 
--- Characters of one byte may follow each other.
+-- Characters of one byte can follow each other.
 pub ones_follow : (s : CharacterSet) (f : Flavor) (bytes : List ℕ) (n : ℕ) → n ≤ length bytes →
     ((i : ℕ) → i < n → (get_or bytes i 0 < 0x80) × (is_null f (get_or bytes i 0) ≡ false)) → FirstFollow s f bytes n
 ones_follow s f bytes n fits ones = record {

@@ -1,4 +1,4 @@
--- What bytes show behind others, and what these want, lane by lane.
+-- The class of each pair of bytes and the class that is required, lane by lane.
 use Rattle.std.proofs.Common.{◌≡◌, ℕ, ◌+◌, ◌%◌, ◌^◌, ◌<◌, ⊎_elim, Bool, true, false, cond, ◌&&◌, List, map, length, replicate, eqb, leb, ltb, bit_and, bit_or, refl, sym, ap, ◌∙◌, arith, Fits, w8, ◌-◌, add-zero, get_or}
 use Rattle.std.proofs.lemmas.Bool.{agree_below, agree_below_at, and_parts, eqb-true, ne_eqb, cases_eq, cases_Bool}
 use lib.Lanes.{zip2, sel_l, top, Each1}
@@ -13,9 +13,9 @@ use Rattle.cesu8_decode.specs.declared.lanes.character_set.Rule.{Rule}
 use Rattle.cesu8_decode.specs.declared.lanes.character_set.TheConstants.{ENCODED, UNCHANGED}
 use Rattle.cesu8_bytes.proofs.lists.Lanes.{ones}
 
--- ---- what two bytes show, by three look-ups
+-- ---- the class of a pair, by three look-ups
 
--- the three tables of a set
+-- The bits that three table entries of a set have in common.
 abbrev pub told_by : Rule → ℕ → ℕ → ℕ
 told_by t = told t.by_high t.by_low t.by_next
 
@@ -34,7 +34,7 @@ unfolding shown
 told_is Encoded = told_alike ENCODED.by_high ENCODED.by_low ENCODED.by_next (shown Encoded Cesu8) refl (by_half Encoded)
 told_is Unchanged = told_alike UNCHANGED.by_high UNCHANGED.by_low UNCHANGED.by_next (shown Unchanged Cesu8) refl (by_half Unchanged)
 
--- In MUTF-8 a byte 00 is none of a character, and 80 behind C0 is, where that is meant.
+-- The class bits that are kept in MUTF-8: all but 10 for a second byte 80, if the set has C0 80.
 abbrev kept_of : CharacterSet → ℕ → ℕ
 kept_of s b = cond (has_changed s && eqb b 0x80) 0xEF 0xFF
 
@@ -44,7 +44,7 @@ in_mutf8 s n b = bit_or (bit_and n (kept_of s b)) (mask (eqb b 0))
 or_cond : (t : Bool) (x y m : ℕ) → bit_or (bit_and (cond t x y) 0xFF) m ≡ cond t (bit_or (bit_and x 0xFF) m) (bit_or (bit_and y 0xFF) m)
 or_cond t x y m = grind arith
 
--- behind each byte 00 and 80 show that
+-- After each first byte, the second bytes 00 and 80 have the right class in MUTF-8.
 null_agrees : CharacterSet → ℕ → Bool
 null_agrees s a =
     eqb (in_mutf8 s (shown s Cesu8 a 0) 0) (shown s Mutf8 a 0) && eqb (in_mutf8 s (shown s Cesu8 a 0x80) 0x80) (shown s Mutf8 a 0x80)
@@ -65,7 +65,7 @@ mutf8_is s a b ha =
 
 -- ---- the lanes of these look-ups
 
--- They give what the second of two bytes shows in CESU-8,
+-- In CESU-8 the look-ups give the class of each pair of bytes.
 pub cesu8_lanes : (s : CharacterSet) (first second : List ℕ) → length first ≡ 32 → length second ≡ 32 → Each1 (Fits w8) first → Each1 (Fits w8) second →
     zip2 (told_by (rule s)) first second ≡ zip2 (shown s Cesu8) first second
 cesu8_lanes s first second long long_second fits_first fits_second =
@@ -75,11 +75,11 @@ cesu8_lanes s first second long long_second fits_first fits_second =
     (on_range (λ i. told_by (rule s) (a i) (b i)) (λ i. shown s Cesu8 (a i) (b i)) 0 32
     (λ i low inside. told_is s (a i) (b i) (lane_fits first long fits_first i inside) (lane_fits second long_second fits_second i inside)))
 
--- Either encoding is one of two.
+-- An encoding that is not MUTF-8 is CESU-8.
 pub cesu8_unless : (f : Flavor) → ¬ (f ≡ Mutf8) → f ≡ Cesu8
 cesu8_unless f other = grind arith
 
--- and, changed where the second is 00 or 80, in MUTF-8.
+-- In MUTF-8 the look-ups give the class, corrected for second bytes 00 and 80.
 pub mutf8_lanes : (s : CharacterSet) (first second kept nulls : List ℕ) → length first ≡ 32 → length second ≡ 32 →
     Each1 (Fits w8) first → Each1 (Fits w8) second → kept ≡ map (kept_of s) second → nulls ≡ map (λ b. mask (is_null Mutf8 b)) second →
     zip2 bit_or (zip2 bit_and (zip2 (told_by (rule s)) first second) kept) nulls ≡ zip2 (shown s Mutf8) first second
@@ -90,16 +90,17 @@ mutf8_lanes s first second kept nulls long long_second fits_first fits_second ke
     (on_range (λ i. in_mutf8 s (shown s Cesu8 (a i) (b i)) (b i)) (λ i. shown s Mutf8 (a i) (b i)) 0 32
     (λ i low inside. mutf8_is s (a i) (b i) (lane_fits first long fits_first i inside)))
 
--- All bits are kept where neither surrogate pairs nor C0 80 are meant.
+-- If the set has no characters that need conversion, all class bits are kept.
 pub all_kept : (s : CharacterSet) → has_changed s ≡ false → (bytes : List ℕ) → length bytes ≡ 32 → replicate {A = ℕ} 32 0xFF ≡ map (kept_of s) bytes
 all_kept s none bytes long = rw (lanes_are bytes long, none) refl
 
--- ---- what three bytes want
+-- ---- the class that is required
 
 pub is_high_lane : (b : ℕ) → b < 0x100 → eqb (bit_and b 0xF0) 0xA0 ≡ (leb 0xA0 b && ltb b 0xB0)
 is_high_lane b h = agree_below_at (λ b. eqb (bit_and b 0xF0) 0xA0) (λ b. leb 0xA0 b && ltb b 0xB0) 0x100 b refl h
 
--- What is left of a byte has the highest bit from a lead byte on.
+-- After a saturating subtraction, the highest bit is left exactly for the bytes from a lead byte
+-- on.
 abbrev left_of : (less b : ℕ) → ℕ
 left_of less b = bit_and ((cond (top 7 (ones (ltb b less))) less b + (2 ^ 8 - less)) % 2 ^ 8) 0x80
 
@@ -117,7 +118,7 @@ module _ (less lead : ℕ) (agree : agree_below (λ b. eqb (left_of less b) (con
       rw (lanes_are bytes long) (on_range (λ i. left_of less (get_or bytes i 0)) (λ i. cond (leb lead (get_or bytes i 0)) 0x80 0) 0 32
       (λ i low inside. eqb-true _ _ (agree_below_at (λ b. eqb (left_of less b) (cond (leb lead b) 0x80 0)) (λ _. true) 0x100 _ agree (lane_fits bytes long fits i inside))))
 
--- The third byte of a character is later.
+-- The lanes at which a third byte is required.
 pub third_are : (three two third : List ℕ) → length three ≡ 32 → length two ≡ 32 → third ≡ led_lanes 0xE0 two →
     third ≡ zip2 (λ b d. later d) three two
 third_are three two third long_three long_two is =
@@ -132,7 +133,8 @@ abbrev wanted_lanes : ℕ → (later lead second : List ℕ) → List ℕ
 wanted_lanes n later lead second =
     zip2 bit_or later (zip2 bit_and (zip2 bit_and lead second) (replicate n 0x20))
 
--- What is wanted by three bytes, with pairs or without, and its lanes.
+-- The class that is required by three bytes, for sets with and without surrogate pairs, and its
+-- lanes.
 abbrev wanted_if : CharacterSet → Bool → (a b d : ℕ) → ℕ
 wanted_if s pairs a b d = later d + cond (pairs && (eqb a 0xED && (leb 0xA0 b && ltb b 0xB0))) 0x20 0
 
@@ -140,7 +142,7 @@ abbrev wants : CharacterSet → Bool → (four three two : List ℕ) → List �
 wants s pairs four three two = zip2 (λ want d. want d) (zip2 (wanted_if s pairs) four three) two
 
 module _ (s : CharacterSet) where
-  -- Without pairs no other byte is wanted.
+  -- Without surrogate pairs only third bytes are required.
   pub alone_are : has_changed s ≡ false → (four three two later_lanes : List ℕ) → length four ≡ 32 → length three ≡ 32 → length two ≡ 32 →
       later_lanes ≡ zip2 (λ b d. later d) three two → later_lanes ≡ wants s (has_changed s) four three two
   alone_are none four three two later_lanes long_four long_three long_two is =
@@ -148,7 +150,7 @@ module _ (s : CharacterSet) where
       rw (none, is, lanes_are four long_four, lanes_are three long_three, lanes_are two long_two)
       (on_range alone (λ i. alone i + 0) 0 32 (λ i low inside. sym (add-zero (alone i))))
 
-  -- With pairs, so is the second byte of a low surrogate.
+  -- With surrogate pairs, the second byte of a low surrogate is required too.
   pub wanted_are : has_changed s ≡ true → (four three two later_lanes lead second : List ℕ) → length four ≡ 32 → length three ≡ 32 → length two ≡ 32 → Each1 (Fits w8) three →
       later_lanes ≡ zip2 (λ b d. later d) three two → lead ≡ map (λ b. mask (eqb b 0xED)) four →
       second ≡ map (λ b. mask (eqb b 0xA0)) (zip2 bit_and three (replicate 32 0xF0)) → wanted_lanes 32 later_lanes lead second ≡ wants s (has_changed s) four three two

@@ -1,4 +1,4 @@
--- Masks of all forms of characters at the first offsets, from those of classes.
+-- The masks of all forms of characters at the first offsets, from masks of classes of bytes.
 use Rattle.std.proofs.Common.{◌≡◌, ℕ, zero, suc, ◌∷◌, map, add-zero, ◌+◌, ◌/◌, ◌^◌, ◌<◌, ◌≤◌, Bool, true, false, not, ◌&&◌, ◌||◌, eqb, leb, ltb, List, get_or, bit_and, bit_or, ap, sym, ◌∙◌, refl, arith, w64, zero-add}
 use Rattle.std.specs.Int.{bit_not}
 use Rattle.std.specs.List.{range_with_len}
@@ -31,7 +31,7 @@ module _ (f : Flavor) (xs : List ℕ) (small : (i : ℕ) → get_or xs i 0 < 256
   abbrev x : ℕ → ℕ
   x i = get_or xs i 0
 
-  -- Bytes that are no character by themselves, of the first n.
+  -- The bytes that are no character of one byte, among the first n.
   module _ (n lanes first high null : ℕ) (few : n ≤ lanes) (of_first : HasBits first (λ i. ltb i n))
       (of_high : HasBits high (λ i. leb 0x80 (x i))) (of_null : HasBits null (λ i. ltb i lanes && is_null f (x i))) where
     other : (i : ℕ) → i < n → (leb 0x80 (x i) || (ltb i lanes && is_null f (x i))) ≡ is_other_at f xs i
@@ -41,7 +41,7 @@ module _ (f : Flavor) (xs : List ℕ) (small : (i : ℕ) → get_or xs i 0 < 256
     pub others_are : Marks (bit_and (bit_or high null) first) (is_other_at f xs) 0 n
     others_are = marks_first (is_other_at f xs) n (or_bits of_high of_null) of_first other
 
-    -- If there is none, all are characters of one byte.
+    -- If there is no such byte, all are characters of one byte.
     one : bit_and (bit_or high null) first ≡ 0 → (i : ℕ) → i < n → not (one_at f (x (0 + i))) ≡ false
     one none i inside =
         ap (λ j. not (one_at f (x j))) (zero-add i)
@@ -59,7 +59,7 @@ module _ (f : Flavor) (xs : List ℕ) (small : (i : ℕ) → get_or xs i 0 < 256
           nulls = no_marks (is_null_at f xs) 0 n (λ i inside. one_not_null f (x (0 + i)) (w i 1) (one none i inside));
         }
 
-  -- What begins with C2 or more.
+  -- The characters that begin with a byte from C2 on.
   module _ (high below from_c2 wide : ℕ) (of_high : HasBits high (λ i. leb 0x80 (x i))) (of_below : HasBits below (λ i. has_bit_below 1 (x i)))
       (of_c2 : HasBits from_c2 (λ i. leb 0xC2 (x i))) (of_wide : HasBits wide (λ i. has_bit_below 2 (x i)))
       (high_fits : high < 2 ^ 64) (c2_fits : from_c2 < 2 ^ 64) (wide_fits : wide < 2 ^ 64) where
@@ -72,26 +72,26 @@ module _ (f : Flavor) (xs : List ℕ) (small : (i : ℕ) → get_or xs i 0 < 256
     from_c0_fits : from_c0 < 2 ^ 64
     from_c0_fits = and_fits high below high_fits
 
-    -- Bytes before a continuation byte,
+    -- The bytes that precede a continuation byte.
     pub second_are : HasBits second (λ i. continues (x (i + 1)))
     second_are =
         later_bits 1 (told_by (λ i. continues (x i)) (λ i. continuation_bit (x i) (small i))
         (without_bits high_fits from_c0_fits of_high (and_bits of_high of_below)))
 
-    -- lead bytes before one,
+    -- The lead bytes from E0 on that precede a continuation byte.
     pub long_leads_are : HasBits (bit_and (bit_and from_c2 second) wide) (is_long_lead_at xs)
     long_leads_are =
         told_by (is_long_lead_at xs)
         (λ i. turned (leb 0xC2 (x i)) (continues (x (i + 1))) (has_bit_below 2 (x i)) ∙ ap (λ t. t && continues (x (i + 1))) (wide_lead_bit (x i) (small i)))
         (and_bits (and_bits of_c2 second_are) of_wide)
 
-    -- C0 and C1,
+    -- The bytes C0 and C1.
     pub below_c2_are : HasBits (bit_and from_c0 (bit_not w64 from_c2)) (λ i. leb 0xC0 (x i) && ltb (x i) 0xC2)
     below_c2_are =
         told_by (λ i. leb 0xC0 (x i) && ltb (x i) 0xC2) (λ i. below_c2_bit (x i) (small i))
         (without_bits from_c0_fits c2_fits (and_bits of_high of_below) of_c2)
 
-    -- and characters of two bytes.
+    -- The characters of two bytes.
     pub twos_are : (n first : ℕ) → HasBits first (λ i. ltb i n) →
         Marks (bit_and (bit_and (bit_and from_c2 second) (bit_not w64 wide)) first) (is_two_at xs) 0 n
     twos_are n first of_first =
@@ -101,7 +101,7 @@ module _ (f : Flavor) (xs : List ℕ) (small : (i : ℕ) → get_or xs i 0 < 256
         ∙ ap (λ t. t && continues (x (i + 1))) (two_lead_bit (x i) (small i))
         ∙ regrouped (leb 0xC2 (x i)) (ltb (x i) 0xE0) (continues (x (i + 1))))
 
-  -- The others, of the first n.
+  -- The starts of characters of three bytes among the first n.
   pub threes_first : (n : ℕ) {a first : ℕ} → HasBits a (is_three_at xs) → HasBits first (λ i. ltb i n) → Marks (bit_and a first) (is_three_at xs) 0 n
   threes_first n h of_first = marks_first (is_three_at xs) n h of_first (λ i inside. refl)
 
@@ -113,7 +113,7 @@ module _ (f : Flavor) (xs : List ℕ) (small : (i : ℕ) → get_or xs i 0 < 256
 
 -- ---- bytes at another offset
 
--- Tests that agree at each offset have the same answers.
+-- Tests that agree at each offset give the same list.
 pub map_alike : (p q : ℕ → Bool) (i j n : ℕ) → ((k : ℕ) → k < n → p (i + k) ≡ q (j + k)) → map p (range_with_len i n) ≡ map q (range_with_len j n)
 map_alike p q i j zero same = refl
 map_alike p q i j (suc n) same =
@@ -124,7 +124,8 @@ map_alike p q i j (suc n) same =
     ap p here ∙ same (1 + k) (omega arith) ∙ ap q (sym there)) in
     (λ k. first k ∷ rest k)
 
--- Masks of some bytes are those of others that have the same ones, and five more.
+-- The masks of a vector are the masks of any bytes that agree with it, up to five bytes after the
+-- offsets.
 pub masks_moved : (f : Flavor) (lanes bytes : List ℕ) (at n : ℕ) (masks : Masks) → Agree lanes bytes 0 at (n + 5) → AreMasks f lanes 0 n masks →
     AreMasks f bytes at n masks
 masks_moved f lanes bytes at n masks agree are =

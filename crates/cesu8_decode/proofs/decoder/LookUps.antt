@@ -1,4 +1,4 @@
--- What tables of sixteen entries tell of bytes, lane by lane.
+-- Look-ups of bytes in tables of sixteen entries, lane by lane.
 use Rattle.std.proofs.lemmas.Bool.Decides.{nat_tests}
 use Rattle.std.proofs.lemmas.Grind.{same_number_lists}
 use Rattle.std.proofs.Common.{◌≡◌, ℕ, ◌+◌, ◌*◌, ◌/◌, ◌%◌, ◌^◌, ◌<◌, Bool, true, false, ◌&&◌, List, ◌++◌, map, length, get_or, replicate, eqb, leb, ltb, bit_and, refl, sym, ap, ◌∙◌, arith, w8}
@@ -19,8 +19,8 @@ and_false t = grind arith
 abbrev pub half : ℕ → ℕ
 half b = b / 0x10 * 0x10
 
--- Tables tell the same as a function if they do for each first byte and upper half of the second, by
--- which that function tells it of all.
+-- Tables agree with a function of two bytes if they do for each first byte and each upper half of
+-- the second, and the function depends on nothing else.
 abbrev tells_at : (high low next : List ℕ) → (ℕ → ℕ → ℕ) → ℕ → Bool
 tells_at high low next tells i = eqb (told high low next (i / 0x10) (i % 0x10 * 0x10)) (tells (i / 0x10) (i % 0x10 * 0x10))
 
@@ -36,7 +36,7 @@ told_alike high low next tells agree by_half a b ha hb =
     eqb-true _ _ (rw (e0, e1) at (agree_below_at (tells_at high low next tells) (λ _. true) 0x1000 i agree (omega arith))) in
     rw e2 at at_half ∙ by_half a b
 
--- An upper half tells whether a byte is before a multiple of 10 (hexadecimal).
+-- The upper half of a byte decides whether the byte is less than a multiple of 10 (hexadecimal).
 pub half_tests : (b k : ℕ) → (leb (k * 0x10) (half b) ≡ leb (k * 0x10) b) × (ltb (half b) (k * 0x10) ≡ ltb b (k * 0x10))
 half_tests b k = grind (arith, nat_tests)
 
@@ -57,7 +57,7 @@ module _ (lanes : List ℕ) (long : length lanes ≡ 32) where
       get_or-zip2 bit_and lanes (replicate 32 15) k 0 0 0 (omega arith) small
       ∙ ap (bit_and (get_or lanes k 0)) (get_or-replicate 32 k 15 0 small) ∙ and_mask (get_or lanes k 0) 4
 
-  -- It is in the table.
+  -- The indices are within the table.
   pub halves_ok : SwzOk w8 16 32 0 (halves lanes)
   halves_ok =
       SwzOk-from_below w8 16 2 32 0 (halves lanes) refl (omega (arith, halves_long))
@@ -82,7 +82,7 @@ module _ (lanes : List ℕ) (long : length lanes ≡ 32) where
         ∙ in_table n (omega arith) ∙ ap (λ p. get_or table p 0) entry
         ∙ sym (get_or-map (λ lane. get_or table (lane % 16) 0) lanes k 0 0 (omega arith))
 
-    -- A look-up gives each lane's entry.
+    -- A look-up gives the entry for each lane.
     pub entries : found ≡ map (λ lane. get_or table (lane % 16) 0) lanes
     entries =
         let found_long = length-swz_l w8 16 (pick_l 0 (table ++ table) twice) 0 (halves lanes) ∙ halves_long in
@@ -94,7 +94,7 @@ module _ (lanes : List ℕ) (long : length lanes ≡ 32) where
 abbrev shr : ℕ → ℕ → ℕ
 shr a b = a / 2 ^ b
 
--- Three look-ups give what the tables tell of two bytes each.
+-- Three look-ups give the bits that the entries for each pair of bytes have in common.
 pub told_are : (by_high by_low by_next first second : List ℕ) → length first ≡ 32 → length second ≡ 32 →
     zip2 bit_and (zip2 bit_and (map (λ lane. get_or by_high (lane % 16) 0) (zip2 shr first (replicate 32 4)))
     (map (λ lane. get_or by_low (lane % 16) 0) first)) (map (λ lane. get_or by_next (lane % 16) 0) (zip2 shr second (replicate 32 4)))

@@ -1,4 +1,4 @@
--- Operations on masks, by the tests that their bits tell.
+-- Operations on masks, by the tests that their bits represent.
 use Rattle.std.proofs.Common.{◌≡◌, ℕ, ◌+◌, ◌-◌, ◌*◌, ◌/◌, ◌%◌, ◌^◌, ◌<◌, ◌≤◌, min, max, Bool, cond, true, false, not, ◌&&◌, ◌||◌, leb, ltb, ⊎_elim, List, map, length, get_or, bit_and, bit_or, pow-add, add_comm, one-mul, zero-mul, zero-add, add-zero, mod-eq_of_lt, mod-lt, refl, sym, ap, ◌∙◌, arith, Fits, w8, w64, replicate}
 use Rattle.std.specs.Int.{bit_at, bit_not}
 use Rattle.std.specs.List.{range_with_len}
@@ -41,19 +41,19 @@ dropped t = grind arith
 
 -- ---- operations
 
--- Bits that two masks have,
+-- The bits of a & b pass both tests.
 pub and_bits : {a b : ℕ} {p q : ℕ → Bool} → HasBits a p → HasBits b q → HasBits (bit_and a b) (λ i. p i && q i)
 and_bits {a = a} {b = b} {p = p} {q = q} h k = record {
   bit = λ i. bit_at_and a b i ∙ (λ j. min (h.bit i j) (k.bit i j)) ∙ both (p i) (q i);
 }
 
--- that one of them has,
+-- The bits of a | b pass one of the tests.
 pub or_bits : {a b : ℕ} {p q : ℕ → Bool} → HasBits a p → HasBits b q → HasBits (bit_or a b) (λ i. p i || q i)
 or_bits {a = a} {b = b} {p = p} {q = q} h k = record {
   bit = λ i. bit_at_or a b i ∙ (λ j. max (h.bit i j) (k.bit i j)) ∙ either (p i) (q i);
 }
 
--- or the first alone.
+-- The bits of a & !b pass the first test and not the second.
 pub without_bits : {a b : ℕ} {p q : ℕ → Bool} → a < 2 ^ 64 → b < 2 ^ 64 → HasBits a p → HasBits b q →
     HasBits (bit_and a (bit_not w64 b)) (λ i. p i && not (q i))
 without_bits {a = a} {b = b} {p = p} {q = q} small_a small_b h k = record {
@@ -74,7 +74,7 @@ bit_shifted a k i =
     let steps : 2 ^ k * 2 ^ i ≡ 2 ^ (i + k) = sym (pow-add 2 k i) ∙ ap (λ n. 2 ^ n) (add_comm k i) in
     ap (λ n. n % 2) (div-div-eq-div-mul a (2 ^ k) (2 ^ i) ∙ ap (λ n. a / n) steps)
 
--- A shift tells of later offsets.
+-- The bits of a >> k pass the test k places later.
 pub later_bits : {a : ℕ} {p : ℕ → Bool} (k : ℕ) → HasBits a p → HasBits (a / 2 ^ k) (λ i. p (i + k))
 later_bits {a = a} k h = record { bit = λ i. bit_shifted a k i ∙ h.bit (i + k) }
 
@@ -83,7 +83,7 @@ bit_kept n i small =
     ap (λ m. bit_at m i) (sym (and_mask n 64)) ∙ bit_at_and n (2 ^ 64 - 1) i
     ∙ omega (arith, bit_at_ones 64 i small, bit_at-lt n i)
 
--- One the other way tells of earlier ones.
+-- The bits of a << k pass the test k places earlier.
 pub earlier_bits : {a : ℕ} {p : ℕ → Bool} (k : ℕ) → HasBits a p →
     HasBits (a * 2 ^ k % 2 ^ 64) (λ i. ltb i 64 && (leb k i && p (i - k)))
 earlier_bits {a = a} {p = p} k h = record {
@@ -106,30 +106,30 @@ earlier_bits {a = a} {p = p} k h = record {
         ap (λ m. bit_at m i) sum ∙ bit_at_cat_high a k 0 i (pow_pos k) high ∙ h.bit (i - k) ∙ ap (λ t. cond (t && p (i - k)) 1 0) (sym (le-leb k i high)))
         (cases_lt i k)
 
--- No bit is set in zero,
+-- No bit of 0 is set.
 pub no_bits : HasBits 0 (λ _. false)
 no_bits = record { bit = λ i. bit_at-zero i }
 
--- and the lowest are in a power of two less one.
+-- In a power of two less one, the lowest bits are set.
 pub first_have_bits : (n : ℕ) → HasBits (2 ^ n - 1) (λ i. ltb i n)
 first_have_bits n = record {
   bit = λ i. ⊎_elim (λ (below : i < n). bit_at_ones n i below ∙ ap (λ t. cond t 1 0) (sym (lt-ltb i n below)))
       (λ (above : n ≤ i). bit_at_ones_above n i above ∙ ap (λ t. cond t 1 0) (sym (le-ltb i n above))) (cases_lt i n);
 }
 
--- As the code has that power.
+-- The power of two as the code computes it.
 pub power_less_one : (n : ℕ) → n < 64 → 1 * 2 ^ n % 2 ^ 64 - 1 ≡ 2 ^ n - 1
 power_less_one n few =
     let small : 2 ^ n < 2 ^ 64 = pow-lt few in
     ap (λ m. m - 1) (ap (λ m. m % 18446744073709551616) (one-mul (2 ^ n)) ∙ mod-eq_of_lt small)
 
--- A test may be told otherwise.
+-- A test can be replaced by one that agrees with it.
 pub told_by : {a : ℕ} {p : ℕ → Bool} (q : ℕ → Bool) → ((i : ℕ) → p i ≡ q i) → HasBits a p → HasBits a q
 told_by q same h = record { bit = λ i. h.bit i ∙ ap (λ t. cond t 1 0) (same i) }
 
 -- ---- masks of lanes
 
--- The mask of a class tells of each lane, and of no offset after them.
+-- The mask of a class has the bits of the lanes in it, and no others.
 pub class_within : (class : ℕ → Bool) (xs : List ℕ) {a : ℕ} → a ≡ mask_l (map class xs) →
     HasBits a (λ i. ltb i (length xs) && class (get_or xs i 0))
 class_within class xs is = record {
@@ -144,7 +144,7 @@ class_within class xs is = record {
         ∙ ap (λ t. t && class (get_or xs i 0)) (sym (le-ltb i (length xs) past)))
         (cases_lt i (length xs))
 
--- So it does as if zeros followed them, if zero is not in the class.
+-- If 0 is not in the class, the mask is also that of the lanes with zeros after them.
 pub class_bits : (class : ℕ → Bool) (xs : List ℕ) {a : ℕ} → class 0 ≡ false → a ≡ mask_l (map class xs) →
     HasBits a (λ i. class (get_or xs i 0))
 class_bits class xs none is = told_by (λ i. class (get_or xs i 0)) same (class_within class xs is)
@@ -157,7 +157,7 @@ class_bits class xs none is = told_by (λ i. class (get_or xs i 0)) same (class_
         ∙ sym none ∙ ap class (sym (get_or_past xs i 0 past)))
         (cases_lt i (length xs))
 
--- A mask whose bits tell a test of n offsets, and of no other, marks these.
+-- A test of n offsets, by index.
 range_tested : (test : ℕ → Bool) (at n i : ℕ) → get_or (map test (range_with_len at n)) i false ≡ (ltb i n && test (at + i))
 range_tested test at n i =
     ⊎_elim (λ (inside : i < n). get_or-map-range_with_len test at n i (at + i) false inside refl ∙ ap (λ t. t && test (at + i)) (sym (lt-ltb i n inside)))
@@ -172,14 +172,14 @@ marks_from test at n {a = a} h =
     same_from_bits a (mask_l (map test (range_with_len at n)))
     (λ i. h.bit i ∙ ap (λ t. cond t 1 0) (sym (range_tested test at n i)) ∙ sym (bit_mask_l (map test (range_with_len at n)) i))
 
--- and so does one that marks them.
+-- A mask that marks n offsets has the bits of those that pass.
 pub bits_from : (test : ℕ → Bool) (at n : ℕ) {a : ℕ} → a ≡ mask_l (map test (range_with_len at n)) →
     HasBits a (λ i. ltb i n && test (at + i))
 bits_from test at n is = record {
   bit = λ i. ap (λ m. bit_at m i) is ∙ bit_mask_l (map test (range_with_len at n)) i ∙ ap (λ t. cond t 1 0) (range_tested test at n i);
 }
 
--- It marks the first offsets that pass,
+-- A mask limited to the first n bits marks the offsets among them that pass.
 pub marks_first : (test : ℕ → Bool) (n : ℕ) {a b : ℕ} {p : ℕ → Bool} → HasBits a p → HasBits b (λ i. ltb i n) →
     ((i : ℕ) → i < n → p i ≡ test i) → bit_and a b ≡ mask_l (map test (range_with_len 0 n))
 marks_first test n {p = p} h first same = marks_from test 0 n (told_by (λ i. ltb i n && test (0 + i)) tested (and_bits h first))
@@ -192,7 +192,7 @@ marks_first test n {p = p} h first same = marks_from test 0 n (told_by (λ i. lt
         (λ (past : n ≤ i). ap (λ t. p i && t) (le-ltb i n past) ∙ dropped (p i) ∙ ap (λ t. t && test (0 + i)) (sym (le-ltb i n past)))
         (cases_lt i n)
 
--- and is zero if none does.
+-- The mask is 0 if no offset passes.
 pub no_marks : (test : ℕ → Bool) (at n : ℕ) → ((i : ℕ) → i < n → test (at + i) ≡ false) → 0 ≡ mask_l (map test (range_with_len at n))
 no_marks test at n none = marks_from test at n (told_by (λ i. ltb i n && test (at + i)) same no_bits)
   where
@@ -202,13 +202,13 @@ no_marks test at n none = marks_from test at n (told_by (λ i. ltb i n && test (
         (λ (past : n ≤ i). ap (λ t. t && test (at + i)) (sym (le-ltb i n past)))
         (cases_lt i n)
 
--- No offset passes the test of a mask that is zero.
+-- If the mask is 0, no offset passes.
 pub none_set : {a : ℕ} {p : ℕ → Bool} → a ≡ 0 → HasBits a p → (i : ℕ) → p i ≡ false
 none_set {a = a} {p = p} is h i = unset (p i) (bit_at a i) (h.bit i) (ap (λ n. bit_at n i) is ∙ bit_at-zero i)
 
 -- ---- bytes
 
--- Each lane is below 100 (hexadecimal), and what follows them too.
+-- Each lane is less than 100 (hexadecimal), and so are the zeros after the lanes.
 pub lanes_below : (xs : List ℕ) → Each1 (Fits w8) xs → (i : ℕ) → get_or xs i 0 < 256
 lanes_below xs fit i =
     ⊎_elim (λ (inside : i < length xs). (Each1-get_or (Fits w8) xs i 0 inside fit).fits)

@@ -1,4 +1,4 @@
--- What offsets save, by how many bits of each mask are set.
+-- How many bytes offsets save, by how many bits of each mask are set.
 use Rattle.std.proofs.Common.{◌≡◌, ℕ, zero, suc, ◌+◌, ◌-◌, ◌*◌, ◌/◌, ◌^◌, ◌<◌, ◌≤◌, Bool, cond, true, false, not, eqb, ⊎_elim, List, ◌++◌, map, drop, replicate, length, get_or, count_by, count_ones, refl, ap, sym, ◌∙◌, arith, add-zero, zero-add, suc-add}
 use Rattle.std.specs.List.{range_with_len}
 use Rattle.std.proofs.lemmas.Bool.Decides.{nat_tests}
@@ -23,7 +23,7 @@ use Rattle.cesu8_decode.proofs.decoder.MaskTests.{pair_width}
 abbrev one_if : Bool → ℕ
 one_if t = cond t 1 0
 
--- A test that passes alone decides what is saved.
+-- If exactly one of the tests of a form passes, it decides what is saved.
 by_forms : (one null two three pair is_c0 : Bool) →
     (one ≡ true → (null ≡ false) × (two ≡ false) × (three ≡ false) × (pair ≡ false)) →
     (null ≡ true → (two ≡ false) × (three ≡ false) × (pair ≡ false) × (is_c0 ≡ true)) →
@@ -34,7 +34,8 @@ by_forms : (one null two three pair is_c0 : Bool) →
     × (one_if two + one_if three + one_if pair + one_if null ≤ one_if (not one))
 by_forms one null two three pair is_c0 h1 h2 h3 h4 = grind arith
 
--- An offset saves 2, less 2 if it is no character of one byte, and more by the form of what begins there.
+-- An offset saves 2, or nothing if it is no character of one byte, and more by the form that begins
+-- there.
 offset_saves : (f : Flavor) (a b d e g h : ℕ) →
     (saved (first_width_by f a b d e g h) a + 2 * one_if (not (one_at f a))
     ≡ 2 + 4 * one_if (two_at a b) + 6 * one_if (three_at a b d) + 14 * one_if (pair_at a b d e g h) + 5 * one_if (null_at f a b))
@@ -53,7 +54,7 @@ at_most_one t = grind arith
 -- ---- many
 
 module _ (f : Flavor) (bytes : List ℕ) where
-  -- So do many, by how many there are of each form.
+  -- What n offsets save, by how many of them begin with each form.
   pub saved_by_counts : (i n : ℕ) →
       let count : (ℕ → Bool) → ℕ = λ test. count_by test (range_with_len i n) in
       (saved_between f bytes i n + 2 * count (is_other_at f bytes)
@@ -85,7 +86,7 @@ later_range a (suc k) n =
     let offset : a + 1 + k ≡ a + suc k = omega arith in
     rw (suc-add k n) (later_range (a + 1) k n ∙ ap (λ i. range_with_len i n) offset)
 
--- The bits of a mask from the k-th on are as many as the offsets from there on that pass.
+-- The number of bits of a mask from bit k on is the number of offsets from there on that pass.
 pub bits_count : (test : ℕ → Bool) (k n mask : ℕ) → mask ≡ mask_l (map test (range_with_len 0 (k + n))) →
     count_ones (mask / 2 ^ k) ≡ count_by test (range_with_len k n)
 bits_count test k n mask is =
@@ -93,7 +94,7 @@ bits_count test k n mask is =
     bits_behind test (range_with_len 0 (k + n)) k mask (omega arith) is
     ∙ ap (count_by test) (later_range 0 k n ∙ ap (λ i. range_with_len i n) (zero-add k))
 
--- Masks of offsets tell what n of them save, after k others.
+-- The masks give what n offsets save, after k others.
 pub saved_by_masks : (f : Flavor) (bytes : List ℕ) (k n : ℕ) (masks : Masks) → AreMasks f bytes 0 (k + n) masks →
     let others = count_ones (masks.others / 2 ^ k) in
     (others ≤ n)
@@ -120,7 +121,7 @@ zeros n k =
     ⊎_elim (λ (inside : k < n). get_or-replicate n k 0 0 inside)
     (λ (past : n ≤ k). get_or_past none k 0 (omega (arith, length-replicate {A = ℕ} n 0))) (cases_lt k n)
 
--- Zeros after bytes change none of them.
+-- Bytes with zeros after them agree with the bytes at every offset.
 pub with_zeros : (bytes : List ℕ) (n k : ℕ) → get_or (bytes ++ replicate n 0) k 0 ≡ get_or bytes k 0
 with_zeros bytes n k =
     ⊎_elim (λ (inside : k < length bytes). get_or_append_left bytes (replicate n 0) 0 k inside)
@@ -129,18 +130,18 @@ with_zeros bytes n k =
     (cases_lt k (length bytes))
 
 module _ (f : Flavor) (bytes : List ℕ) where
-  -- So they save what they save without.
+  -- Bytes with zeros after them save what they save without.
   pub saved_before_zeros : (n : ℕ) → saved_between f (bytes ++ replicate n 0) 0 (length bytes) ≡ total_saved f bytes
   saved_before_zeros n =
       saved_agrees f (bytes ++ replicate n 0) bytes 0 0 (length bytes) (λ k small. with_zeros bytes n (0 + k)) ∙ all_offsets f bytes
 
-  -- A vector tells what its first offsets save,
+  -- The first n offsets of a vector save what they save in the bytes.
   pub saved_in_chunk : (at n : ℕ) → n + 5 ≤ 64 → saved_between f (chunk at 64 bytes) 0 n ≡ saved_between f bytes at n
   saved_in_chunk at n few =
       saved_agrees f (chunk at 64 bytes) bytes 0 at n
       (λ k small. ap (λ i. get_or (chunk at 64 bytes) i 0) (zero-add k) ∙ get_or-chunk at 64 bytes k 0 (omega arith))
 
-  -- and one of the last bytes what its last ones do.
+  -- The last offsets of a vector of the last bytes save what these bytes save.
   pub saved_in_last : (count : ℕ) → count ≤ 64 → 64 ≤ length bytes →
       saved_between f (chunk (length bytes - 64) 64 bytes) (64 - count) count ≡ total_saved f (drop (length bytes - count) bytes)
   saved_in_last count few many =
@@ -158,7 +159,7 @@ module _ (f : Flavor) (bytes : List ℕ) where
       ∙ ap (saved_between f bytes (length bytes - count)) (sym rest)
       ∙ all_between f bytes (drop (length bytes - count) bytes) (length bytes - count) (λ k. sym (get_or-drop (length bytes - count) bytes k 0))
 
-  -- What is left saves what n offsets more do, and what is left then.
+  -- What is left saves what the next n offsets save, and what is left after them.
   pub saved_next : (at n : ℕ) → at + n ≤ length bytes →
       total_saved f (drop at bytes) ≡ saved_between f bytes at n + total_saved f (drop (at + n) bytes)
   saved_next at n fits =

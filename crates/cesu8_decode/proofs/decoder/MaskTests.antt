@@ -1,4 +1,4 @@
--- What the masks of classes tell together, byte by byte.
+-- The masks of classes combined, byte by byte.
 use Rattle.std.proofs.Common.{◌≡◌, ℕ, ◌<◌, ◌≤◌, Bool, true, false, not, ◌&&◌, ◌||◌, eqb, leb, ltb, ⊎_elim, refl, sym, ap, ◌∙◌, arith}
 use Rattle.std.proofs.lemmas.Bool.{agree_below_at, cases_Bool, ne_eqb, both_ways}
 use Rattle.std.proofs.lemmas.Bool.Decides.{nat_tests}
@@ -11,26 +11,27 @@ use Rattle.cesu8_decode.proofs.by_offset.WidthTests.{width_tells}
 
 -- ---- one byte
 
--- From 80 on, C0 or more has the next bit set too,
+-- A byte from 80 on whose next bit is clear is a continuation byte.
 pub continuation_bit : (a : ℕ) → a < 256 → (leb 0x80 a && not (leb 0x80 a && has_bit_below 1 a)) ≡ continues a
 continuation_bit a small = agree_below_at (λ a. leb 0x80 a && not (leb 0x80 a && has_bit_below 1 a)) continues 256 a refl small
 
--- which C0 and C1 have.
+-- A byte from 80 on whose next bit is set, and which is less than C2, is C0 or C1.
 pub below_c2_bit : (a : ℕ) → a < 256 → ((leb 0x80 a && has_bit_below 1 a) && not (leb 0xC2 a)) ≡ (leb 0xC0 a && ltb a 0xC2)
 below_c2_bit a small = agree_below_at (λ a. (leb 0x80 a && has_bit_below 1 a) && not (leb 0xC2 a)) (λ a. leb 0xC0 a && ltb a 0xC2) 256 a refl small
 
--- From C2 on, E0 or more has the third bit set,
+-- A byte from C2 on has the third bit set if it is E0 or more.
 pub wide_lead_bit : (a : ℕ) → a < 256 → (leb 0xC2 a && has_bit_below 2 a) ≡ leb 0xE0 a
 wide_lead_bit a small = agree_below_at (λ a. leb 0xC2 a && has_bit_below 2 a) (leb 0xE0) 256 a refl small
 
 pub two_lead_bit : (a : ℕ) → a < 256 → (leb 0xC2 a && not (has_bit_below 2 a)) ≡ (leb 0xC2 a && ltb a 0xE0)
 two_lead_bit a small = agree_below_at (λ a. leb 0xC2 a && not (has_bit_below 2 a)) (λ a. leb 0xC2 a && ltb a 0xE0) 256 a refl small
 
--- and F0 or more the fourth too.
+-- A byte from E0 on has the fourth bit set if it is F0 or more.
 pub three_lead_bit : (a : ℕ) → a < 256 → (leb 0xE0 a && not (has_bit_below 3 a)) ≡ (leb 0xE0 a && ltb a 0xF0)
 three_lead_bit a small = agree_below_at (λ a. leb 0xE0 a && not (has_bit_below 3 a)) (λ a. leb 0xE0 a && ltb a 0xF0) 256 a refl small
 
--- Of continuation bytes A0 or more has the third bit set, and of these B0 or more the fourth.
+-- A continuation byte has the third bit set if it is A0 or more, and then the fourth if it is B0 or
+-- more.
 pub wide_bit : (b : ℕ) → b < 256 → (continues b && has_bit_below 2 b) ≡ (leb 0xA0 b && ltb b 0xC0)
 wide_bit b small = agree_below_at (λ b. continues b && has_bit_below 2 b) (λ b. leb 0xA0 b && ltb b 0xC0) 256 b refl small
 
@@ -39,7 +40,7 @@ odd_bit b small = agree_below_at (λ b. (continues b && has_bit_below 2 b) && ha
 
 -- ---- three bytes
 
--- The tests of the code, where p, q and r are bits of the first and of the second byte:
+-- The tests of the code. p, q and r are bits of the first and of the second byte.
 abbrev pub whole_by : (a b d : ℕ) (p : Bool) → Bool
 whole_by a b d p = ((leb 0xE0 a && continues b) && continues d) && not p
 
@@ -77,30 +78,30 @@ plain_pair_tests : (a b d e g h : ℕ) (p : Bool) → (leb 0xE0 a && not p) ≡ 
 plain_pair_tests a b d e g h p lead plain = grind (arith, nat_tests)
 
 module _ (a b d : ℕ) (small_a : a < 256) (small_b : b < 256) where
-  -- After a lead byte that is neither E0 nor ED any continuation byte may be the second,
+  -- If the lead byte is neither E0 nor ED, any continuation byte can be the second byte.
   pub plain_three : (whole_by a b d (has_bit_below 3 a) && (eqb a 0xE0 || eqb a 0xED)) ≡ false → whole_by a b d (has_bit_below 3 a) ≡ three_at a b d
   plain_three plain = plain_three_tests a b d (has_bit_below 3 a) (three_lead_bit a small_a) plain
 
-  -- and it begins no pair.
+  -- Such a lead byte begins no surrogate pair.
   pub plain_not_pair : (e g h : ℕ) → (whole_by a b d (has_bit_below 3 a) && (eqb a 0xE0 || eqb a 0xED)) ≡ false → pair_at a b d e g h ≡ false
   plain_not_pair e g h plain = plain_pair_tests a b d e g h (has_bit_below 3 a) (three_lead_bit a small_a) plain
 
-  -- The tests tell characters of three bytes,
+  -- The tests identify characters of three bytes.
   pub three_bits : three_by a b d (has_bit_below 3 a) (has_bit_below 2 b) ≡ three_at a b d
   three_bits = three_tests a b d (has_bit_below 3 a) (has_bit_below 2 b) (three_lead_bit a small_a) (wide_bit b small_b)
 
-  -- surrogates,
+  -- The tests identify surrogates.
   surrogate_bits : surrogate_by a b d (has_bit_below 3 a) (has_bit_below 2 b) ≡ (eqb a 0xED && ((leb 0xA0 b && ltb b 0xC0) && continues d))
   surrogate_bits = surrogate_tests a b d (has_bit_below 3 a) (has_bit_below 2 b) (three_lead_bit a small_a) (wide_bit b small_b)
 
-  -- without which there is no pair,
+  -- Without a surrogate there is no surrogate pair.
   pub no_surrogate : (e g h : ℕ) → surrogate_by a b d (has_bit_below 3 a) (has_bit_below 2 b) ≡ false → pair_at a b d e g h ≡ false
   no_surrogate e g h none = unpaired (sym surrogate_bits ∙ none)
     where
       unpaired : (eqb a 0xED && ((leb 0xA0 b && ltb b 0xC0) && continues d)) ≡ false → pair_at a b d e g h ≡ false
       unpaired none = grind (arith, nat_tests)
 
-  -- and pairs of them.
+  -- The tests identify surrogate pairs.
   pub pair_bits : (e g h : ℕ) → e < 256 → g < 256 →
       pair_by a b d e g h (has_bit_below 3 a) (has_bit_below 2 b) (has_bit_below 3 b) (has_bit_below 3 e) (has_bit_below 2 g) (has_bit_below 3 g)
       ≡ pair_at a b d e g h
@@ -109,7 +110,7 @@ module _ (a b d : ℕ) (small_a : a < 256) (small_b : b < 256) where
       (surrogate_tests e g h (has_bit_below 3 e) (has_bit_below 2 g) (three_lead_bit e small_e) (wide_bit g small_g))
       (wide_bit b small_b) (odd_bit b small_b) (wide_bit g small_g) (odd_bit g small_g)
 
--- ---- what no lead byte begins
+-- ---- offsets without a lead byte
 
 pub no_lead_no_three : (a b d : ℕ) → (leb 0xE0 a && continues b) ≡ false → three_at a b d ≡ false
 no_lead_no_three a b d none = grind (arith, nat_tests)
@@ -125,7 +126,7 @@ null_test f a b mutf8 = ap (λ g. null_at g a b) (sym mutf8)
 pub null_byte : (f : Flavor) (a : ℕ) → f ≡ Mutf8 → eqb a 0 ≡ is_null f a
 null_byte f a mutf8 = ap (λ g. is_null g a) (sym mutf8)
 
--- CESU-8 has neither.
+-- CESU-8 has neither C0 80 nor a null byte that is encoded otherwise.
 pub no_null_byte : (f : Flavor) (a : ℕ) → (f ≡ Mutf8 → ⊥) → is_null f a ≡ false
 no_null_byte Cesu8 a other = refl
 no_null_byte Mutf8 a other = absurd (other refl)
@@ -140,7 +141,7 @@ no_null f a b none = grind (arith, nat_tests)
 pub other_test : (f : Flavor) (a : ℕ) → (leb 0x80 a || is_null f a) ≡ not (one_at f a)
 other_test f a = grind (arith, nat_tests)
 
--- A character of one byte is none of more.
+-- A character of one byte begins no other form.
 module _ (f : Flavor) (a b : ℕ) (one : not (one_at f a) ≡ false) where
   pub one_not_null : null_at f a b ≡ false
   one_not_null = grind (arith, nat_tests)
@@ -154,7 +155,7 @@ module _ (f : Flavor) (a b : ℕ) (one : not (one_at f a) ≡ false) where
   pub one_not_pair : (d e g h : ℕ) → pair_at a b d e g h ≡ false
   one_not_pair d e g h = grind (arith, nat_tests)
 
--- A surrogate pair is what is six bytes wide.
+-- A surrogate pair passes no other test of a form.
 pub pair_alone : (f : Flavor) (a b d e g h : ℕ) → pair_at a b d e g h ≡ true →
     (one_at f a ≡ false) × (null_at f a b ≡ false) × (two_at a b ≡ false) × (three_at a b d ≡ false)
 pair_alone f a b d e g h pair =

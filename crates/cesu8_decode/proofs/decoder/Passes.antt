@@ -19,16 +19,16 @@ use Rattle.cesu8_decode.proofs.chunks.UnchangedFronts.{in_utf8}
 use Rattle.cesu8_decode.proofs.chunks.DecodedPairs.{pair_fine, boundary_after_pair, pair_at_boundary}
 use Rattle.cesu8_decode.proofs.decoder.BlocksInPlace.{more_decoded, decoded_in, most_of_more, all_decoded, refused_decoded}
 
--- A pass that came so far.
+-- The state of a pass that has read some bytes and was not stopped.
 abbrev pub pass_at : (read end : ℕ) → Pass
 pass_at read end = record { read = read; end = end; is_refused = false }
 
--- A window becomes at most three bytes for each of its own.
+-- The text of a window has at most three bytes for each of its bytes.
 pub most_of_window : (which : Strictness) (n : ℕ) → n ≤ 64 → most_written which n ≤ 192
 most_of_window Strict n small = omega arith
 most_of_window Lossy n small = omega arith
 
--- Text may stand before what is written.
+-- What is written can follow any text.
 behind_text : (f : Flavor) (which : Strictness) (window text old new : List ℕ) (at n : ℕ) (is_refused : Bool) →
     IsDecoded f which window at n old new is_refused → IsDecoded f which window at n (text ++ old) (text ++ new) is_refused
 behind_text f which window text old new at n is_refused is = record {
@@ -38,12 +38,12 @@ behind_text f which window text old new at n is_refused is = record {
   strict = is.strict;
 }
 
--- It begins at the first byte.
+-- The start of the bytes is a state of the pass.
 pub at_start : (f : Flavor) (bytes : List ℕ) → IsPass f bytes 0
 at_start f bytes = record { within = omega arith; boundary = boundary_of_zeros f bytes }
 
 module _ (f : Flavor) (which : Strictness) (bytes : List ℕ) where
-  -- Before it goes on, nothing is read and written.
+  -- A state of the pass continues from itself: nothing is read or written.
   pub goes_nowhere : (pass : Pass) (out : List ℕ) → (pass.is_refused ≡ false → IsPass f bytes pass.read) → pass.read ≤ length bytes →
       pass.is_refused ≡ false → pass.end ≤ length out → GoesOn f which bytes pass pass out out
   goes_nowhere pass out is within fine inside = record {
@@ -55,7 +55,8 @@ module _ (f : Flavor) (which : Strictness) (bytes : List ℕ) where
     len = refl;
   }
 
-  -- From where it goes on it goes further.
+  -- If the pass goes on from one state to a second, and from there to a third, it goes on from the
+  -- first to the third.
   pub goes_further : (before between after : Pass) (old mid new : List ℕ) → GoesOn f which bytes before between old mid → between.is_refused ≡ false →
       GoesOn f which bytes between after mid new → GoesOn f which bytes before after old new
   goes_further before between after old mid new first fine next = record {
@@ -68,7 +69,7 @@ module _ (f : Flavor) (which : Strictness) (bytes : List ℕ) where
     len = next.len ∙ first.len;
   }
 
-  -- It does by what n bytes of a window become.
+  -- The pass continues by what is written for n bytes of a window.
   pub goes_on_by : (before after : Pass) (window old new : List ℕ) (p n : ℕ) → after.read ≡ before.read + n → after.read ≤ length bytes →
       (after.is_refused ≡ false → IsPass f bytes after.read) → Agree window (window_of bytes) p before.read (n + 10) →
       WritesDecoded f which window p n before.end old new after.end after.is_refused → after.end ≤ length new →
@@ -86,7 +87,7 @@ module _ (f : Flavor) (which : Strictness) (bytes : List ℕ) where
     len = writes.len;
   }
 
-  -- To an empty buffer it writes the text of what is read meanwhile.
+  -- A pass that starts with an empty buffer writes the text of the bytes that it reads.
   pub reads_on : (before after : Pass) (old new start text : List ℕ) (is_refused : Bool) → GoesOn f which bytes before after old new → before.end ≡ 0 →
       after.is_refused ≡ is_refused → IsDecoded f which (window_of bytes) 0 before.read start text false →
       IsDecoded f which (window_of bytes) 0 after.read start (text ++ take after.end new) is_refused
@@ -95,7 +96,7 @@ module _ (f : Flavor) (which : Strictness) (bytes : List ℕ) where
       subst (IsDecoded f which (window_of bytes) 0 after.read start (text ++ take after.end new)) refused
       (more.text start text (subst (λ bs. IsDecoded f which (window_of bytes) 0 before.read start bs false) none so_far))
 
--- The text of all bytes is written, or strict reading refuses one of them.
+-- The text of all bytes is written, or strict decoding rejects one of them.
 pub writes_reading : {E : Type 0} (f : Flavor) (which : Strictness) (bytes old new : List ℕ) (n end : ℕ) (is_refused : Bool) →
     IsDecoded f which (window_of bytes) 0 n [] (take end new) is_refused → n ≤ length bytes → (is_refused ≡ false → n ≡ length bytes) →
     end ≤ most_written which n → length new ≡ length old → (result : Result ℕ E) → OkIff result (which ≡ Strict → is_refused ≡ false) end →
@@ -114,7 +115,7 @@ most_of_pair : (which : Strictness) (n : ℕ) → most_written which n + 4 ≤ m
 most_of_pair Strict n = omega arith
 most_of_pair Lossy n = omega arith
 
--- A pair that begins at the boundary is read, and its UTF-8 is written.
+-- A surrogate pair at the boundary is read, and its UTF-8 is written.
 pub pair_goes_on : (f : Flavor) (which : Strictness) (bytes : List ℕ) (read end new_end : ℕ) → IsPass f bytes read → 6 ≤ length (drop read bytes) →
     HasPair (drop read bytes) → (four old new : List ℕ) → IsUtf8OfDigits (second_third_fifth_sixth (drop read bytes)) four → length four ≡ 4 →
     PutsAt four end old new new_end → new_end ≤ length new → GoesOn f which bytes (pass_at read end) (pass_at (read + 6) new_end) old new
@@ -139,13 +140,13 @@ pair_goes_on f which bytes read end new_end is long has four old new is_utf8 siz
       len = put.writes.len;
     }
 
--- ---- characters that are the same in UTF-8
+-- ---- unchanged characters
 
 most_of_bytes : (which : Strictness) (n m : ℕ) → m + most_written which n ≤ most_written which (n + m)
 most_of_bytes Strict n m = omega arith
 most_of_bytes Lossy n m = omega arith
 
--- The front of what comes next is copied.
+-- The unchanged prefix of what comes next is copied.
 pub front_goes_on : (f : Flavor) (which : Strictness) (bytes part : List ℕ) (k read end len new_end : ℕ) → IsPass f bytes read → part ≡ take k (drop read bytes) →
     IsFront Unchanged f part len → (old new : List ℕ) → PutsAt (take len part) end old new new_end → new_end ≤ length new →
     GoesOn f which bytes (pass_at read end) (pass_at (read + len) new_end) old new

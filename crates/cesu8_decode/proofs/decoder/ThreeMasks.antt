@@ -1,4 +1,4 @@
--- Masks of characters of three bytes and of surrogate pairs, from those of classes.
+-- The masks of characters of three bytes and of surrogate pairs, from masks of classes of bytes.
 use Rattle.std.proofs.Common.{◌≡◌, ℕ, ◌+◌, ◌/◌, ◌^◌, ◌<◌, eqb, false, ◌&&◌, ◌||◌, List, get_or, bit_and, bit_or, ap, sym, ◌∙◌, arith, w64}
 use Rattle.std.specs.Int.{bit_not}
 use Rattle.std.proofs.lemmas.Nat.{and_le_l, or_lt}
@@ -7,14 +7,14 @@ use Rattle.cesu8_decode.specs.Masks.{HasBits, has_bit_below, is_long_lead_at, is
 use Rattle.cesu8_decode.proofs.decoder.MaskBits.{told_by, and_bits, or_bits, without_bits, later_bits, no_bits, none_set}
 use Rattle.cesu8_decode.proofs.decoder.MaskTests.{whole_by, plain_three, plain_not_pair, surrogate_by, pair_by, three_bits, pair_bits, no_surrogate, no_lead_no_three, no_lead_no_pair}
 
--- The masks that the code computes:
+-- The masks that the code computes.
 abbrev pub whole_of : (leads second odd : ℕ) → ℕ
 whole_of leads second odd = bit_and (bit_and leads (second / 2)) (bit_not w64 odd)
 
 abbrev pub surrogates_of : (leads second wide odd led : ℕ) → ℕ
 surrogates_of leads second wide odd led = bit_and (bit_and (whole_of leads second odd) (wide / 2)) led
 
--- They have 64 bits.
+-- These masks have 64 bits.
 pub and_fits : (a b : ℕ) → a < 2 ^ 64 → bit_and a b < 2 ^ 64
 and_fits a b fits = omega (arith, and_le_l a b)
 
@@ -22,7 +22,7 @@ module _ (xs : List ℕ) (leads second wide odd led lowest : ℕ) (small : (i : 
   abbrev x : ℕ → ℕ
   x i = get_or xs i 0
 
-  -- No lead byte before a continuation byte: no such character.
+  -- If no lead byte precedes a continuation byte, no character of three bytes begins.
   pub no_threes : leads ≡ 0 → HasBits leads (is_long_lead_at xs) → HasBits 0 (is_three_at xs)
   no_threes none of_leads =
       told_by (is_three_at xs) (λ i. sym (no_lead_no_three (x i) (x (i + 1)) (x (i + 2)) (none_set none of_leads i))) no_bits
@@ -31,14 +31,15 @@ module _ (xs : List ℕ) (leads second wide odd led lowest : ℕ) (small : (i : 
   no_pairs none of_leads =
       told_by (is_six_at xs) (λ i. sym (no_lead_no_pair (x i) (x (i + 1)) (x (i + 2)) (x (i + 3)) (x (i + 4)) (x (i + 5)) (none_set none of_leads i))) no_bits
 
-  -- Bytes that pass all tests but those of the second byte:
+  -- The bytes that pass all tests except those of the second byte.
   pub whole_bits : HasBits leads (is_long_lead_at xs) → HasBits second (λ i. continues (x (i + 1))) → HasBits odd (λ i. has_bit_below 3 (x i)) →
       leads < 2 ^ 64 → odd < 2 ^ 64 → HasBits (whole_of leads second odd) (λ i. whole_by (x i) (x (i + 1)) (x (i + 2)) (has_bit_below 3 (x i)))
   whole_bits of_leads of_second of_odd leads_fit odd_fits =
       let third = told_by (λ i. continues (x (i + 2))) (λ i. let offset : i + 1 + 1 ≡ i + 2 = omega arith in ap (λ j. continues (x j)) offset) (later_bits 1 of_second) in
       without_bits (and_fits leads (second / 2) leads_fit) odd_fits (and_bits of_leads third) of_odd
 
-  -- if neither E0 nor ED leads one, they are all characters of three bytes, and no pair is among them.
+  -- If none of these bytes is E0 or ED, they are the characters of three bytes, and no surrogate
+  -- pair begins.
   module _ (special : ℕ) (of_whole : HasBits (whole_of leads second odd) (λ i. whole_by (x i) (x (i + 1)) (x (i + 2)) (has_bit_below 3 (x i))))
       (of_special : HasBits special (λ i. eqb (x i) 0xE0 || eqb (x i) 0xED)) (none : bit_and (whole_of leads second odd) special ≡ 0) where
     plain : (i : ℕ) → (whole_by (x i) (x (i + 1)) (x (i + 2)) (has_bit_below 3 (x i)) && (eqb (x i) 0xE0 || eqb (x i) 0xED)) ≡ false
@@ -61,7 +62,7 @@ module _ (xs : List ℕ) (leads second wide odd led lowest : ℕ) (small : (i : 
     whole_fits : whole_of leads second odd < 2 ^ 64
     whole_fits = and_fits (bit_and leads (second / 2)) (bit_not w64 odd) (and_fits leads (second / 2) leads_fit)
 
-    -- Surrogates,
+    -- The surrogates.
     surrogate_mask : HasBits (surrogates_of leads second wide odd led)
         (λ i. surrogate_by (x i) (x (i + 1)) (x (i + 2)) (has_bit_below 3 (x i)) (has_bit_below 2 (x (i + 1))))
     surrogate_mask = and_bits (and_bits of_whole (later_bits 1 of_wide)) of_led
@@ -69,14 +70,14 @@ module _ (xs : List ℕ) (leads second wide odd led lowest : ℕ) (small : (i : 
     surrogates_fit : surrogates_of leads second wide odd led < 2 ^ 64
     surrogates_fit = and_fits (bit_and (whole_of leads second odd) (wide / 2)) led (and_fits (whole_of leads second odd) (wide / 2) whole_fits)
 
-    -- characters of three bytes,
+    -- The characters of three bytes.
     pub threes_are : HasBits (bit_and (whole_of leads second odd) (bit_not w64 (bit_or (surrogates_of leads second wide odd led) (bit_and lowest (bit_not w64 (wide / 2)))))) (is_three_at xs)
     threes_are =
         told_by (is_three_at xs) (λ i. three_bits (x i) (x (i + 1)) (x (i + 2)) (small i) (small (i + 1)))
         (without_bits whole_fits (or_lt 64 _ _ surrogates_fit (and_fits lowest (bit_not w64 (wide / 2)) lowest_fits)) of_whole
         (or_bits surrogate_mask (without_bits lowest_fits (omega arith) of_lowest (later_bits 1 of_wide))))
 
-    -- and pairs, of which there is none without a surrogate.
+    -- The surrogate pairs. Without a surrogate there is none.
     pub no_pairs_are : surrogates_of leads second wide odd led ≡ 0 → HasBits 0 (is_six_at xs)
     no_pairs_are none =
         told_by (is_six_at xs) (λ i. sym (no_surrogate (x i) (x (i + 1)) (x (i + 2)) (small i) (small (i + 1)) (x (i + 3)) (x (i + 4)) (x (i + 5)) (none_set none surrogate_mask i))) no_bits

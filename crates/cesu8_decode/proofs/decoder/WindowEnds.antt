@@ -1,4 +1,4 @@
--- Where a window ends, and whether one of its bytes is ill-formed.
+-- The end of a window, and whether one of its bytes is ill-formed.
 use Rattle.std.proofs.Common.{◌≡◌, ℕ, zero, suc, ◌+◌, ◌*◌, ◌<◌, ◌≤◌, ⊎_elim, Bool, true, false, true≢false, cond, List, refl, sym, ap, ◌∙◌, arith, map, get_or}
 use Rattle.std.specs.Prelude.{◌&&◌, ◌==◌, nat_le, nat_lt}
 use Rattle.std.specs.List.{range_with_len}
@@ -19,7 +19,7 @@ unset : (t : Bool) (m : ℕ) → cond t 1 0 + 2 * m ≡ 0 → (t ≡ false) × (
 unset true m e = absurd (omega arith)
 unset false m e = (refl, omega arith)
 
--- If no bit of a mask is set, the test holds nowhere,
+-- If a mask is 0, no offset passes the test.
 pub none_marked : (test : ℕ → Bool) (at n : ℕ) → mask_l (map test (range_with_len at n)) ≡ 0 → (i : ℕ) → at ≤ i → i < at + n → test i ≡ false
 none_marked test at zero none i from to = absurd (omega arith)
 none_marked test at (suc n) none i from to =
@@ -29,7 +29,7 @@ none_marked test at (suc n) none i from to =
     (λ (first : i ≤ at). let here : i ≡ at = omega arith in ap test here ∙ parts.0)
     (cases_lt at i)
 
--- and else somewhere.
+-- If a mask is not 0, some offset passes the test.
 pub some_marked : (test : ℕ → Bool) (at n : ℕ) → ¬ (mask_l (map test (range_with_len at n)) ≡ 0) → (i : ℕ) × (at ≤ i) × (i < at + n) × (test i ≡ true)
 some_marked test at zero some = absurd (some refl)
 some_marked test at (suc n) some =
@@ -46,7 +46,7 @@ some_marked test at (suc n) some =
 
 -- ---- the end
 
--- No character of so many bytes has a zero among those after the first.
+-- A character with a zero after its first byte has that byte alone.
 zero_second : (f : Flavor) (a b d e g h : ℕ) → b ≡ 0 → first_width_by f a b d e g h ≤ 1
 unfolding first_width_by
 zero_second f a b d e g h null = grind (arith, nat_tests)
@@ -92,7 +92,7 @@ zero_sixth f a b d e g h null =
     (both_fail (e == 0xED) (nat_le 0xB0 g && (nat_lt g 0xC0 && false))
     (both_fail (nat_le 0xB0 g) (nat_lt g 0xC0 && false) (both_fail (nat_lt g 0xC0) false refl))))
 
--- So no character crosses the boundary before a zero of a window,
+-- No character crosses the offset of a zero in a window.
 boundary_before_zero : (f : Flavor) (w : List ℕ) (i : ℕ) → get_or w (i + 5) 0 ≡ 0 → is_boundary_at f w i ≡ true
 boundary_before_zero f w i there = boundary_where f w i ends
   where
@@ -107,13 +107,13 @@ boundary_before_zero f w i there = boundary_where f w i ends
     ends (suc (suc (suc (suc zero)))) small = omega (arith, zero_second f (get_or w (i + 4) 0) (get_or w (i + 4 + 1) 0) (get_or w (i + 4 + 2) 0) (get_or w (i + 4 + 3) 0) (get_or w (i + 4 + 4) 0) (get_or w (i + 4 + 5) 0) (at_offset 4 1 refl))
     ends (suc (suc (suc (suc (suc s))))) small = absurd (omega arith)
 
--- or of the bytes.
+-- No character crosses the offset of a zero in the bytes.
 pub boundary_at_zero : (f : Flavor) (bytes : List ℕ) (i : ℕ) → get_or bytes i 0 ≡ 0 → is_boundary_at f (window_of bytes) i ≡ true
 boundary_at_zero f bytes i null =
     let offset : i + 5 ≡ 5 + i = omega arith in
     boundary_before_zero f (window_of bytes) i (ap (λ p. get_or (window_of bytes) p 0) offset ∙ follows_zeros bytes i ∙ null)
 
--- At a boundary a byte is ill-formed exactly if no character begins there.
+-- At a boundary a byte is ill-formed if no character begins there.
 ill_formed_there : (f : Flavor) (window : List ℕ) (i : ℕ) → is_boundary_at f window i ≡ true → width_at f window (i + 5) ≡ 0 → is_ill_formed_at f window i ≡ true
 ill_formed_there f window i boundary none = grind (arith, nat_tests)
 
@@ -121,7 +121,7 @@ width_there : (f : Flavor) (bytes : List ℕ) (i : ℕ) → width_at f (window_o
 width_there f bytes i = width_agrees f (window_of bytes) bytes (i + 5) i (λ k small.
     let offset : i + 5 + k ≡ 5 + (i + k) = omega arith in ap (λ p. get_or (window_of bytes) p 0) offset ∙ follows_zeros bytes (i + k))
 
--- So a window ends before a zero that follows its offsets.
+-- A window ends at its last offset if a zero follows.
 pub ends_at_zero : (f : Flavor) (bytes : List ℕ) (at : ℕ) (window : Window) (is : IsWindow f bytes at window) → get_or bytes (at + is.n) 0 ≡ 0 →
     window.len ≡ is.n
 ends_at_zero f bytes at window is null =
@@ -133,14 +133,14 @@ ends_at_zero f bytes at window is null =
     (λ (none : window.len ≤ is.n). omega (arith, is.len.0))
     (cases_lt is.n window.len)
 
--- If a window's mask has a bit, a byte of it is ill-formed,
+-- If the mask of ill-formed bytes is not 0, some byte of the window is ill-formed.
 pub found_in_window : (f : Flavor) (bytes : List ℕ) (at : ℕ) (window : Window) → IsWindow f bytes at window → ¬ (window.ill_formed ≡ 0) →
     (i : ℕ) × (at ≤ i) × (i < at + window.len) × (is_ill_formed_at f (window_of bytes) i ≡ true)
 found_in_window f bytes at window is some =
     let found = some_marked (is_ill_formed_at f (window_of bytes)) at is.n (λ none. some (is.ill_formed ∙ none)) in
     (found.0, found.1, omega (arith, found.2, is.len.0), found.3)
 
--- and else none is.
+-- If the mask of ill-formed bytes is 0, no byte of the window is ill-formed.
 pub none_in_window : (f : Flavor) (bytes : List ℕ) (at : ℕ) (window : Window) → IsWindow f bytes at window → window.ill_formed ≡ 0 →
     (i : ℕ) → at ≤ i → i < at + window.len → is_ill_formed_at f (window_of bytes) i ≡ false
 none_in_window f bytes at window is none i from to =

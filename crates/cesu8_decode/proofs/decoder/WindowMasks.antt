@@ -1,4 +1,4 @@
--- What changes in a window, and where its last character ends, by masks of its characters.
+-- The events of a window and its end, from the masks of the characters that begin in it.
 use Rattle.std.proofs.Common.{◌≡◌, ℕ, zero, suc, ◌+◌, ◌-◌, ◌*◌, ◌/◌, ◌%◌, ◌^◌, ◌<◌, ◌≤◌, ◌⊎◌, ⊎_elim, inl, inr, Bool, cond, true, false, not, ◌&&◌, ltb, List, [], ◌∷◌, length, get_or, bit_and, bit_or, refl, sym, ap, ◌∙◌, arith, subst, map, mod-lt, w64, zero-add, add-zero}
 use Rattle.std.specs.Int.{bit_at, bit_not, trailing_ones}
 use Rattle.std.proofs.lemmas.Bool.{cases_lt, cases_eq, cases_Bool, both_ways, le-ltb, eq-eqb}
@@ -25,7 +25,7 @@ use Rattle.cesu8_decode.proofs.decoder.MaskBits.{bit_shifted, unset, told_by, or
 use Rattle.cesu8_decode.proofs.decoder.FormMasks.{masks_moved}
 use Rattle.cesu8_decode.proofs.decoder.CoveredMasks.{Forms, forms, covered_by, threes_by, threes_mask, covered_mask, Part, formed, from_covered, to_covered, widths}
 
--- The width at an offset is that five bytes further on in the window.
+-- The width at an offset is in the window five bytes later.
 width_there : (f : Flavor) (bytes : List ℕ) (p q : ℕ) → q ≡ p + 5 → width_at f (window_of bytes) q ≡ width_at f bytes p
 width_there f bytes p q is =
     ap (width_at f (window_of bytes)) is
@@ -53,7 +53,7 @@ marks_below n a few small =
 
 -- ---- zeros after the bytes
 
--- A zero is in no character but as its first byte.
+-- A zero can only be the first byte of a character.
 zero_second : (f : Flavor) (a b d e g h : ℕ) → b ≡ 0 → first_width_by f a b d e g h ≤ 1
 unfolding first_width_by
 zero_second f a b d e g h null = grind (arith, nat_tests)
@@ -111,7 +111,7 @@ byte_of_six bytes i (suc (suc (suc (suc zero)))) few = refl
 byte_of_six bytes i (suc (suc (suc (suc (suc zero))))) few = refl
 byte_of_six bytes i (suc (suc (suc (suc (suc (suc s)))))) few = absurd (omega arith)
 
--- So a character ends before it.
+-- A character that begins before a zero ends at or before it.
 pub ends_at_zero : (f : Flavor) (bytes : List ℕ) (i m : ℕ) → i < m → get_or bytes m 0 ≡ 0 → i + width_at f bytes i ≤ m
 ends_at_zero f bytes i m before null =
     let b = λ (k : ℕ). get_or bytes k 0 in
@@ -138,7 +138,7 @@ module _ (f : Flavor) (bytes : List ℕ) (at n : ℕ) (boundary : is_boundary_at
   abbrev one : ℕ → Bool
   one i = one_at f (get_or bytes (at + i) 0)
 
-  -- No part of a character is at an ill-formed byte.
+  -- No character reaches an ill-formed byte.
   ill_apart : (i s : ℕ) → ill i ≡ true → s ≤ i → s < 6 → w (i - s) ≤ s
   ill_apart i s set near small =
       let place : at + i + (5 - s) ≡ at + (i - s) + 5 = omega arith in
@@ -159,7 +159,7 @@ module _ (f : Flavor) (bytes : List ℕ) (at n : ℕ) (boundary : is_boundary_at
       let part = reach_fits i (from_covered f bytes at n i set) in
       ⊎_elim (λ (bad : ill i ≡ true). absurd (omega (arith, ill_apart i part.0 bad part.1 part.4, part.3))) (λ (fine : ill i ≡ false). fine) (cases_Bool (ill i))
 
-  -- A character that reaches an offset begins at the boundary or after it.
+  -- An offset that a character reaches is a character of one byte, or is covered.
   reaching : (i s q : ℕ) → i < n → i < 64 → s < 6 → q ≡ at + i + (5 - s) → s < width_at f (window_of bytes) q → (one i ≡ true) ⊎ (covered i ≡ true)
   reaching i s q inside small few is reach =
       ⊎_elim (λ (early : i < s).
@@ -188,7 +188,7 @@ module _ (f : Flavor) (bytes : List ℕ) (at n : ℕ) (boundary : is_boundary_at
   abbrev v : ℕ → ℕ
   v q = width_at f (window_of bytes) q
 
-  -- Bytes that are no character alone, and that none covers, are ill-formed.
+  -- The ill-formed bytes are those that are no character of one byte and that no character covers.
   ill_is : (i : ℕ) → i < n → i < 64 → (not (one i) && not (covered i)) ≡ ill i
   ill_is i inside small =
       ⊎_elim (λ (bad : ill i ≡ true).
@@ -232,7 +232,7 @@ module _ (f : Flavor) (bytes : List ℕ) (at n : ℕ) (boundary : is_boundary_at
 
   -- ---- the end
 
-  -- So many offsets follow that characters of the window cover.
+  -- After the n offsets, exactly r more are covered by characters of the window.
   pub record Ends (r : ℕ) : Type 0 where
     pub inside : (i : ℕ) → n ≤ i → i < n + r → covered i ≡ true
     pub stop : n + r < 64 → covered (n + r) ≡ false
@@ -269,7 +269,7 @@ module _ (f : Flavor) (bytes : List ℕ) (at n : ℕ) (boundary : is_boundary_at
   pub no_ends : n ≡ 64 → Ends 0
   no_ends all = record { inside = λ i from to. absurd (omega arith); stop = λ within. absurd (omega arith); few = omega arith; fits = omega arith }
 
-  -- The rest of the last character is in the bytes that it covers.
+  -- At the covered offsets after the first n no character begins, and no byte is ill-formed.
   module _ (r : ℕ) (ends : Ends r) where
     pub rest : (p : ℕ) → at + n ≤ p → p < at + (n + r) → (width_at f bytes p ≡ 0) × (is_ill_formed_at f (window_of bytes) p ≡ false)
     rest p from to =
@@ -291,7 +291,7 @@ module _ (f : Flavor) (bytes : List ℕ) (at n : ℕ) (boundary : is_boundary_at
           ap (is_ill_formed_at f (window_of bytes)) (sym place) ∙ not_ill i set,
         )
 
-    -- No character crosses its end, if the next byte is no part of one.
+    -- No character crosses the end of the window, if the byte after it is not covered.
     pub boundary_after : ((i : ℕ) → i < n → i + w i ≤ 64) → is_boundary_at f (window_of bytes) (at + (n + r)) ≡ true
     boundary_after whole = boundary_where f (window_of bytes) (at + (n + r)) (λ s small.
         ⊎_elim (λ (early : n + r + s < 5).
@@ -312,8 +312,7 @@ module _ (f : Flavor) (bytes : List ℕ) (at n : ℕ) (boundary : is_boundary_at
 
 -- ---- the window of a vector
 
--- A vector is read like the bytes that it is of, as far as characters at its first n offsets reach: it
--- has five bytes after these offsets, or zeros follow it.
+-- A vector of 64 bytes has five more than the offsets need, or the bytes have zeros after it.
 pub loaded_alike : (bytes : List ℕ) (at n : ℕ) → at + 64 ≤ length bytes →
     (n ≤ 59) ⊎ ((n ≤ 64) × ((i : ℕ) → at + 64 ≤ i → i < at + 64 + 5 → get_or bytes i 0 ≡ 0)) →
     (i : ℕ) → i < n + 5 → get_or (chunk at 64 bytes) i 0 ≡ get_or bytes (at + i) 0
@@ -331,7 +330,7 @@ module _ (f : Flavor) (lanes bytes : List ℕ) (at n r : ℕ) (masks : Masks) (s
   are : AreMasks f bytes at n masks
   are = masks_moved f lanes bytes at n masks (λ k small. ap (λ i. get_or lanes i 0) (zero-add k) ∙ alike k small) given
 
-  -- Each character that begins at those offsets ends within 64 bytes.
+  -- Each character that begins at one of the offsets ends within 64 bytes.
   whole : (i : ℕ) → i < n → i + width_at f bytes (at + i) ≤ 64
   whole i inside =
       ⊎_elim (λ (less : n < 60). ⊎_elim (λ (low : width_at f bytes (at + i) ≤ 3). omega arith) (λ (six : width_at f bytes (at + i) ≡ 6). omega arith) (widths f bytes at n i))
@@ -381,11 +380,11 @@ module _ (f : Flavor) (lanes bytes : List ℕ) (at n r : ℕ) (masks : Masks) (s
       covered_mask f bytes at n
       (or_bits (or_bits (bits_from (is_two_at bytes) at n are.twos) (bits_from (is_null_at f bytes) at n are.nulls)) of_threes) of_threes
 
-  -- Its last character ends after so many bytes more,
+  -- The number of ones after the offsets is how many more bytes the last character has.
   pub by_ones : n < 64 → Ends f bytes at n boundary (trailing_ones w64 (mask / 2 ^ n))
   by_ones less = ends_of f bytes at n boundary mask less mask_fits of_mask
 
-  -- and the rest of the window is as the masks tell.
+  -- The masks and this length are the window.
   pub window_is : Ends f bytes at n boundary r →
       let window : Window = record { ill_formed = bit_and masks.others (bit_not w64 mask); pairs = masks.pairs; nulls = masks.nulls; len = n + r } in
       (is : IsWindow f bytes at window) × (is.n ≡ n)

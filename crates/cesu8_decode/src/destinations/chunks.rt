@@ -1,4 +1,5 @@
-//! The text of many bytes, which the pass writes chunk by chunk, in place or to a stack array.
+//! Decodes many bytes chunk by chunk: the pass fills a part of a `Vec`, or an array on the stack
+//! that is then copied, until it has read all bytes.
 
 ghost use Rattle.std.specs.Prelude.{◌≡◌, ℕ, List, ◌+◌, ◌<◌, ◌≤◌, false, length, vec_len, vec_capacity};
 ghost use Rattle.cesu8_decode.specs.declared.pass.windows.Pass.{Pass};
@@ -13,11 +14,13 @@ use cesu8_bytes::strictness::{LossyReading, Reading};
 use cesu8_bytes::writing::copies::{append, append_zeros};
 use cesu8_bytes::writing::put::put;
 
-/// So many bytes of a vector are cleared and written at once, at least `ROOM`. Fewer take more
-/// calls of the pass; more are cleared for nothing where strict reading refuses a byte soon.
+/// How many bytes of a vector are cleared at once and then overwritten, at least `ROOM`. A smaller
+/// number would take more calls of the pass. A larger one would be cleared in vain if strict
+/// decoding finds an ill-formed byte soon.
 const CLEARED_AT_ONCE: usize = 4096;
 
-/// Appends the text of the bytes to a vector, unless strict reading refuses one of them.
+/// Appends the decoded text to a vector, or returns an error if decoding is strict and a byte is
+/// ill-formed.
 #[inline(never)]
 pub fn append_chunks<F: Flavor, S: Reading>(
     bytes: &[u8],
@@ -36,8 +39,9 @@ pub fn append_chunks<F: Flavor, S: Reading>(
     Ok(text)
 }
 
-/// Appends the text of the next bytes. It is written over zeros, of which those behind it go. Where
-/// less than `SMALL_STRICT` is spare, an array takes it, since bytes are stored after the text.
+/// Appends the text of the next bytes. It appends zeros, overwrites them with the text, and
+/// truncates the rest. If the vector has less than `SMALL_STRICT` bytes of spare capacity, the text
+/// is written to an array and copied, since the pass also stores bytes after the text.
 #[inline(always)]
 fn append_next<F: Flavor, S: Reading>(bytes: &[u8], read: usize, out: &mut Vec<u8>) -> Pass
     requires pass { IsPass F.flavor bytes.now read × (read < length bytes.now) }
@@ -63,9 +67,10 @@ fn append_next<F: Flavor, S: Reading>(bytes: &[u8], read: usize, out: &mut Vec<u
     pass
 }
 
-/// Writes the lossy reading at the front of a slice that is long enough, and returns its length. It
-/// goes by an array: bytes are stored after the text, where a caller's have to stay. It is
-/// not inlined: two calls need it, and the array is cleared only where it is called.
+/// Writes the lossily decoded text at the start of a slice that is long enough, and returns its
+/// length. The text is written to an array and copied, since the pass also stores bytes after it,
+/// and the rest of a caller's slice must be unchanged. It is not inlined: it has two callers, and
+/// only a call clears the array.
 #[inline(never)]
 pub fn put_chunks<F: Flavor>(bytes: &[u8], out: &mut [u8]) -> usize
     requires { lossy_length F.flavor bytes.now ≤ length out.old }

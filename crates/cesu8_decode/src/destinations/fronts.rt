@@ -1,8 +1,9 @@
-//! The strict reading that is appended to a vector: that of a few bytes, and of more.
+//! Strict decoding that appends to a vector: at most 64 bytes by one window, and more from one
+//! character that needs conversion to the next.
 //!
-//! Where the characters that change stand far apart, what is between them is found by the test of
-//! the front, and copied. Where none begins behind a front, or the last one is cut off, the bytes
-//! are ill-formed.
+//! If such characters are far apart, the test for the unchanged prefix finds the run between two of
+//! them, which is copied. If the byte after a run begins none, or the last one is cut off, the
+//! input is ill-formed.
 
 ghost use Rattle.std.specs.Prelude.{◌≡◌, ◌+◌, ◌<◌, ◌≤◌, length, vec_len, vec_capacity, OnErr, IfOk};
 ghost use Rattle.cesu8_text.specs.Reading.{HasNoStrictReading};
@@ -25,16 +26,17 @@ use cesu8_bytes::pairs::{PAIR, PAIR_READ, utf8_of_pair};
 use cesu8_bytes::strictness::{NoText, StrictReading};
 use cesu8_bytes::writing::copies::{append, append_few, append_front};
 
-/// After a first front shorter than this, windows read the rest, if not few: for speed alone.
+/// If the first unchanged run is shorter than this, the rest is decoded window by window, unless at
+/// most 64 bytes are left: windows are then faster.
 const FRONT: usize = 16;
 
-/// The least front between two that change behind which another is looked for, for speed alone:
-/// if they stand closer together, windows take less time.
+/// If a later unchanged run is shorter than this, the rest is decoded window by window: windows are
+/// faster if converted characters are close together.
 const LONG_FRONT: usize = 64;
 
-/// Appends the strict reading of more than 64 bytes, of which `len` at the front are the same in
-/// UTF-8. It goes from one character that changes to the next, as long as they stand far apart, and
-/// windows read the rest. It is not inlined, so that at most 64 bytes have few registers to save.
+/// Appends the strictly decoded text of more than 64 bytes, of which the first `len` are unchanged.
+/// It goes from one converted character to the next as long as these are far apart, and decodes the
+/// rest window by window. It is not inlined, so that at most 64 bytes have few registers to save.
 #[inline(never)]
 pub fn append_many<F: Flavor>(bytes: &[u8], len: usize, before: Vec<u8>) -> Result<Vec<u8>, NoText>
     requires many { FEW_BYTES < length bytes.now }
@@ -53,7 +55,7 @@ pub fn append_many<F: Flavor>(bytes: &[u8], len: usize, before: Vec<u8>) -> Resu
             return append_rest::<F>(rest, text);
         }
         if !is_long {
-            // What is cut off at the end is refused before all of it is read.
+            // Input that ends within a character is rejected before all of it is decoded.
             if may_be_crossed::<Unchanged>(rest, rest.len()) {
                 return Err(NoText);
             }
@@ -66,7 +68,7 @@ pub fn append_many<F: Flavor>(bytes: &[u8], len: usize, before: Vec<u8>) -> Resu
     Ok(text)
 }
 
-/// Appends the strict reading of the last bytes, at most 64.
+/// Appends the strictly decoded text of the last bytes, at most 64.
 #[inline(always)]
 fn append_rest<F: Flavor>(bytes: &[u8], before: Vec<u8>) -> Result<Vec<u8>, NoText>
     requires few { length bytes.now ≤ FEW_BYTES }
@@ -82,8 +84,8 @@ fn append_rest<F: Flavor>(bytes: &[u8], before: Vec<u8>) -> Result<Vec<u8>, NoTe
     Ok(text)
 }
 
-/// Appends the strict reading of at most 64 bytes, which is written to an array first. `front` is
-/// their front, which is not all of them.
+/// Appends the strictly decoded text of at most 64 bytes, which is written to an array first.
+/// `front` is their unchanged prefix, which is not all of them.
 #[inline(always)]
 pub fn append_few_strictly<F: Flavor>(
     bytes: &[u8],
@@ -102,8 +104,9 @@ pub fn append_few_strictly<F: Flavor>(
     Ok(text)
 }
 
-/// Appends the front, and the character behind it in UTF-8. Returns the bytes behind these, or
-/// an error where none that changes begins there, so that the bytes have no strict reading.
+/// Appends the unchanged prefix and, in UTF-8, the character after it. Returns the bytes after that
+/// character. If no character that needs conversion follows the prefix, the byte there is
+/// ill-formed, and an error is returned.
 #[inline(always)]
 fn append_to_next<'a, F: Flavor>(
     bytes: &'a [u8],

@@ -1,8 +1,10 @@
-//! Decodes to a caller's buffer, with no request.
+//! Decodes to a caller's slice, without allocation. After an error the slice is unchanged, and
+//! after success the bytes after the text are unchanged.
 //!
-//! The text of up to 1,024 bytes, or 4,096 in lossy reading, goes to an array first. Vectors reach
-//! beyond a text, where the buffer has to keep its bytes; after an error it keeps all. Of more,
-//! strict reading tests all first, and counts where the input would not fit; lossy reading counts.
+//! Vectors store bytes after the text, so short input (up to 1,024 bytes, or 4,096 in lossy
+//! decoding) is decoded to an array and copied from there. For longer input a first pass makes sure
+//! that decoding succeeds: strict decoding validates all bytes, and also counts the length if the
+//! slice is shorter than the input. Lossy decoding always counts the length.
 
 ghost use Rattle.std.specs.Prelude.{◌+◌, ◌≤◌, ◌<◌, length};
 ghost use Rattle.cesu8_text.specs.Reading.{reading};
@@ -31,7 +33,8 @@ use cesu8_bytes::lanes::short::copy_short;
 use cesu8_bytes::strictness::{LossyReading, Reading, StrictReading, Strictness};
 use cesu8_bytes::writing::copies::{NoRoom, copy_to_slice};
 
-/// Writes the strict reading of bytes to a caller's buffer, if it fits.
+/// Writes the strictly decoded text to a caller's slice and returns its length. Returns an error if
+/// a byte is ill-formed or the slice is too short.
 #[inline(always)]
 pub fn put_strictly<F: Flavor>(
     bytes: &[u8],
@@ -50,8 +53,8 @@ pub fn put_strictly<F: Flavor>(
     put_changed::<F>(bytes, front.len, buf)
 }
 
-/// Writes the strict reading of more than 64 bytes, of which `front` are the same in UTF-8. It is
-/// not inlined, so that fewer bytes have few registers to save.
+/// Writes the strictly decoded text of more than 64 bytes, of which the first `front` are
+/// unchanged. It is not inlined, so that shorter input has few registers to save.
 #[inline(never)]
 fn put_changed<F: Flavor>(bytes: &[u8], front: usize, buf: &mut [u8]) -> Result<usize, Unwritten>
     requires front { IsFront AllUnchanged F.flavor bytes.now front × (front < length bytes.now) }
@@ -75,7 +78,8 @@ fn put_changed<F: Flavor>(bytes: &[u8], front: usize, buf: &mut [u8]) -> Result<
     }
 }
 
-/// Writes the lossy reading of the bytes to a caller's buffer, if it fits.
+/// Writes the lossily decoded text to a caller's slice and returns its length. Returns an error if
+/// the slice is too short.
 #[inline(never)]
 pub fn put_lossily<F: Flavor>(
     bytes: &[u8],
@@ -94,14 +98,14 @@ pub fn put_lossily<F: Flavor>(
     }
 }
 
-/// Writes the strict reading of the bytes, which is no longer than they are.
+/// Writes the strictly decoded text, which is no longer than the input.
 #[inline(always)]
 fn put_strictly_whole<F: Flavor>(bytes: &[u8], buf: &mut [u8]) -> Result<usize, Unwritten>
     ensures { PutsReading F.flavor Strict bytes.now result buf.old buf.new }
 {
     match way_of(bytes) {
         Way::Few => put_rest::<F>(bytes, buf),
-        // What is cut off at the end is refused before all of it is read.
+        // Input that ends within a character is rejected before all of it is decoded.
         _ if may_be_crossed::<Unchanged>(bytes, bytes.len()) => Err(Unwritten::NoText),
         Way::SmallArray => put_by_array::<F, StrictReading, SMALL_STRICT>(bytes, buf),
         Way::LargeArray => put_by_array::<F, StrictReading, LARGE_STRICT>(bytes, buf),
@@ -109,7 +113,7 @@ fn put_strictly_whole<F: Flavor>(bytes: &[u8], buf: &mut [u8]) -> Result<usize, 
     }
 }
 
-/// Writes the strict reading of the last bytes, at most 64.
+/// Writes the strictly decoded text of the last bytes, at most 64.
 #[inline(always)]
 fn put_rest<F: Flavor>(bytes: &[u8], buf: &mut [u8]) -> Result<usize, Unwritten>
     requires { length bytes.now ≤ FEW_BYTES }
@@ -122,8 +126,8 @@ fn put_rest<F: Flavor>(bytes: &[u8], buf: &mut [u8]) -> Result<usize, Unwritten>
     put_few::<F, StrictReading, FEW_STRICT>(bytes, front, buf)
 }
 
-/// Writes the reading of at most 64 bytes, to an array first. `front` is their front, which is not
-/// all of them.
+/// Writes the decoded text of at most 64 bytes to an array, and copies it from there. `front` is
+/// their unchanged prefix, which is not all of them.
 #[inline(always)]
 fn put_few<F: Flavor, S: Reading, const WRITTEN: usize>(
     bytes: &[u8],
@@ -142,7 +146,8 @@ fn put_few<F: Flavor, S: Reading, const WRITTEN: usize>(
     copy_to_slice(&written[..end], buf).map_err(Unwritten::NoRoom)
 }
 
-/// Writes the reading to an array first, with room for it. Not inlined, so only a call clears it.
+/// Writes the decoded text to an array that is long enough for it, and copies it from there. It is
+/// not inlined, so that only a call clears the array.
 #[inline(never)]
 fn put_by_array<F: Flavor, S: Reading, const WRITTEN: usize>(
     bytes: &[u8],
@@ -158,8 +163,9 @@ fn put_by_array<F: Flavor, S: Reading, const WRITTEN: usize>(
     copy_to_slice(&written[..end], buf).map_err(Unwritten::NoRoom)
 }
 
-/// Writes the lossy reading by `put_chunks`. It is the strict one too where a first pass finds none
-/// ill-formed. Another pass finds its length, but not of a strict one where the input would fit.
+/// Writes the decoded text of more bytes by `put_chunks`. In strict decoding it first validates the
+/// bytes: if none is ill-formed, the lossily decoded text is the strictly decoded text. It then
+/// counts the length, unless the bytes are valid and the slice is at least as long as the input.
 #[inline(never)]
 fn put_many<F: Flavor, S: Reading>(bytes: &[u8], buf: &mut [u8]) -> Result<usize, Unwritten>
     ensures { PutsReading F.flavor S.which bytes.now result buf.old buf.new }

@@ -1,8 +1,8 @@
-//! Decodes to a vector, whose bytes are then known to be UTF-8.
+//! Decodes to a vector, whose bytes are proved to be UTF-8.
 //!
-//! Strict reading has requested as many bytes as it was given, and appends to the vector. Lossy
-//! reading requests exactly what the text has. So what an array on the stack has room for is
-//! decoded before that, and only of more bytes the length is found.
+//! For strict decoding the caller has allocated as many bytes as the input has. Lossy decoding
+//! allocates exactly the length of the text: the text of the first bytes is decoded to an array on
+//! the stack, which gives its length, and only the rest needs a pass for the length.
 
 ghost use Rattle.std.specs.Prelude.{◌≡◌, ◌<◌, ◌≤◌, ◌++◌, [], length, vec_capacity};
 ghost use Rattle.cesu8_text.specs.Encoding.{Flavor as AnyFlavor};
@@ -26,8 +26,8 @@ use cesu8_bytes::strictness::{LossyReading, NoText};
 use cesu8_bytes::writing::copies::{append, copy};
 use std::alloc::{AllocError, Global};
 
-/// Writes the strict reading of the bytes to an empty vector. `front` is their front, which is not
-/// all of them.
+/// Writes the strictly decoded text to an empty vector, or returns an error if a byte is
+/// ill-formed. `front` is the unchanged prefix, which is not all of the bytes.
 #[inline(always)]
 pub fn write_strictly<F: Flavor>(
     bytes: &[u8],
@@ -50,9 +50,9 @@ pub fn write_strictly<F: Flavor>(
     write_many::<F>(bytes, front.len, empty)
 }
 
-/// Writes the strict reading of more than 64 bytes, of which `front` are the same in UTF-8. It is a
-/// function of its own for speed alone: a function, even an inlined one, first clears room for the
-/// results of its calls, and at most 64 bytes need not wait for that.
+/// Writes the strictly decoded text of more than 64 bytes, of which the first `front` are
+/// unchanged. It is split off from `write_strictly`, so that at most 64 bytes skip the zeroing of
+/// result slots: a function zeroes them first, even if it is inlined.
 #[inline(always)]
 fn write_many<F: Flavor>(bytes: &[u8], front: usize, empty: Vec<u8>) -> Result<Vec<u8>, NoText>
     requires many { FEW_BYTES < length bytes.now }
@@ -63,7 +63,7 @@ fn write_many<F: Flavor>(bytes: &[u8], front: usize, empty: Vec<u8>) -> Result<V
     append_many::<F>(bytes, front, empty)
 }
 
-/// Returns the lossy reading of the bytes, after one request for its length.
+/// Returns the lossily decoded text. Allocates once, exactly its length.
 #[inline(always)]
 pub fn build_lossily<F: Flavor>(
     alloc: Global,
@@ -82,7 +82,8 @@ pub fn build_lossily<F: Flavor>(
     }
 }
 
-/// Returns the lossy reading of at most 64 bytes. Not inlined, so only a call clears the array.
+/// Returns the lossily decoded text of at most 64 bytes. It is not inlined, so that only a call
+/// clears the array.
 #[inline(never)]
 fn build_few<F: Flavor>(
     alloc: Global,
@@ -98,7 +99,8 @@ fn build_few<F: Flavor>(
     copy(alloc, &written[..end])
 }
 
-/// Returns the lossy reading, by an array with room for it. Not inlined, so only a call clears it.
+/// Returns the lossily decoded text, which is written to an array that is long enough for it and
+/// copied from there. It is not inlined, so that only a call clears the array.
 #[inline(never)]
 fn build_by_array<F: Flavor, const WRITTEN: usize>(
     alloc: Global,
@@ -112,8 +114,9 @@ fn build_by_array<F: Flavor, const WRITTEN: usize>(
     copy(alloc, &written[..end])
 }
 
-/// Returns the lossy reading of more bytes. A length that does not fit counts as refused. The text
-/// of the first ones is decoded before the length of the others' is found.
+/// Returns the lossily decoded text of more than 4,096 bytes. A length that does not fit `usize` is
+/// reported as a failed allocation. The first part is decoded before the length of the rest is
+/// counted.
 #[inline(never)]
 fn build_chunks<F: Flavor>(alloc: Global, bytes: &[u8]) -> Result<Vec<u8>, AllocError>
     requires { LARGEST_ARRAY < length bytes.now }
@@ -130,8 +133,9 @@ fn build_chunks<F: Flavor>(alloc: Global, bytes: &[u8]) -> Result<Vec<u8>, Alloc
     Ok(text)
 }
 
-/// Returns the first of many bytes, up to an offset that no encoded character crosses, and others.
-/// It is sought in the last 32 that an array takes, a choice; without it all go to the second part.
+/// Splits the bytes at a character boundary, into a first part whose text fits an array and the
+/// rest. The boundary is sought among the last 32 offsets up to `LARGEST_ARRAY`. If there is none,
+/// the first part is empty.
 #[inline(always)]
 fn first_part(bytes: &[u8]) -> (&[u8], &[u8])
     requires { LARGEST_ARRAY < length bytes.now }
@@ -141,7 +145,7 @@ fn first_part(bytes: &[u8]) -> (&[u8], &[u8])
 {
     let mut at = LARGEST_ARRAY;
     while at > LARGEST_ARRAY - BLOCK {
-        // ED may begin the second half of a surrogate pair.
+        // ED can begin the second half of a surrogate pair.
         let byte = bytes[at];
         if (byte < 0x80 || byte >= 0xC0) && byte != 0xED {
             return bytes.split_at(at);

@@ -1,7 +1,7 @@
-//! The front of at most 64 bytes, by one window.
+//! The unchanged prefix of at most 64 bytes, computed from the masks of one window.
 //!
-//! It ends at the first event: before an ill-formed byte or a character that changes stand whole
-//! characters that are the same in UTF-8, and none goes on after it.
+//! It ends at the first event, an ill-formed byte or a character that needs conversion: the bytes
+//! before the first event are whole unchanged characters, and no longer prefix is.
 
 ghost use Rattle.std.specs.Prelude.{◌≤◌, length};
 ghost use Rattle.cesu8_decode.specs.Front.{IsFrontOf};
@@ -10,17 +10,18 @@ use crate::lanes::windows::window_of_few;
 use crate::way::FEW_BYTES;
 use cesu8_bytes::flavor::Flavor;
 
-/// The front of bytes, as a test of it found it.
+/// The unchanged prefix of some bytes.
 #[derive(Clone, Copy)]
 pub struct FoundFront {
-    /// How many bytes at the front are whole characters that are the same in UTF-8.
+    /// The length of the longest prefix of whole characters that are unchanged in UTF-8.
     pub len: usize,
-    /// Of at most 64 bytes, a bit for each offset where a surrogate pair begins, or C0 80 in MUTF-8.
-    /// It is 0 if a byte is ill-formed, and of more bytes it means nothing.
+    /// For at most 64 bytes, a bit for each offset at which a surrogate pair begins, or C0 80 in
+    /// MUTF-8. It is 0 if a byte is ill-formed. For more bytes it is not used.
     pub changed: u64,
 }
 
-/// Returns the front of at most 64 bytes, and which characters change if no byte is ill-formed.
+/// Returns the unchanged prefix of at most 64 bytes, and which characters need conversion if no
+/// byte is ill-formed.
 #[inline(always)]
 pub fn front_of_few<F: Flavor>(bytes: &[u8]) -> FoundFront
     requires { length bytes.now ≤ FEW_BYTES }

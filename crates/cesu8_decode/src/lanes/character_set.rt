@@ -1,4 +1,5 @@
-//! Which characters a test of the front passes over, as types.
+//! The two sets of characters that a prefix can consist of, as types: all encoded characters, and
+//! those that are unchanged in UTF-8.
 
 ghost use Rattle.std.specs.Prelude.{◌≡◌, ◌+◌, ◌-◌, ◌≤◌, length, take, drop};
 ghost use Rattle.cesu8_decode.specs.Following.{CharacterSet as AnySet, Encoded as AllEncoded, Unchanged as AllUnchanged, IsBlockAt, rule};
@@ -6,17 +7,24 @@ ghost use Rattle.cesu8_decode.specs.Following.{CharacterSet as AnySet, Encoded a
 use cesu8_bytes::BLOCK;
 use std::simd::prelude::*;
 
-/// What a set has beside characters of one, two and three bytes, and what two bytes show, as the
-/// common bits of three tables: by the upper half of the first, by its lower half, and by the upper
-/// half of the second.
+/// The rule of a set: whether it has surrogate pairs and C0 80, and three tables of error bits. The
+/// class of a pair of bytes is the bits that three table entries have in common: by the upper half
+/// of the first byte, by its lower half, and by the upper half of the second. The method is that of
+/// Keiser and Lemire, "Validating UTF-8 in less than one instruction per byte".
 ///
-/// Bits 80 and 20 (hexadecimal) are those of `wanted_by` in `following`. Each other is of a second
-/// byte that no character has there: 01 begins one behind a lead byte. A continuation byte is 02
-/// behind ASCII, 04 behind E0 in an overlong form, 08 behind C1, and 10 behind C0; `following`
-/// clears 10 for C0 80 if a set has it. 40 is any byte after F0 or more.
+/// Bits 80 and 20 (hexadecimal) are compared with what the earlier bytes require, in `following`. A
+/// set without surrogate pairs never requires 20. Every other bit is an error in the second byte:
+///
+/// - 01, too short: a lead byte is not followed by a continuation byte
+/// - 02, too long: ASCII is followed by a continuation byte
+/// - 04, overlong: E0 is followed by 80 to 9F
+/// - 08, overlong: C1 is followed by a continuation byte
+/// - 10, overlong: C0 is followed by one; `following` clears this bit for C0 80 if the set has it
+/// - 40, too large: F0 or more is followed by any byte
 #[derive(Clone, Copy)]
 pub struct Rule {
-    /// Surrogate pairs, and in MUTF-8 C0 80, are passed over too.
+    /// Whether the set has the characters that need conversion: surrogate pairs, and C0 80 in
+    /// MUTF-8.
     pub has_changed: bool,
     pub by_high: [u8; 16],
     pub by_low: [u8; 16],
@@ -31,7 +39,7 @@ const BY_LOW: [u8; 16] = [
     0xD7, 0xCB, 0xC3, 0xC3, 0xC3, 0xC3, 0xC3, 0xC3, 0xC3, 0xC3, 0xC3, 0xC3, 0xC3, 0xE3, 0xC3, 0xC3,
 ];
 
-/// Only the entry for A0 to AF differs from `UNCHANGED`: behind ED they begin a high surrogate.
+/// Differs from `UNCHANGED` only in the entry for A0 to AF: after ED these begin a high surrogate.
 const ENCODED: Rule = Rule {
     has_changed: true,
     by_high: BY_HIGH,
@@ -52,11 +60,12 @@ const UNCHANGED: Rule = Rule {
     ],
 };
 
-/// How many bytes before a byte decide whether it may follow: a pair's fifth needs its first, ED.
+/// How many preceding bytes decide whether a byte can follow: the fifth byte of a surrogate pair
+/// depends on the first, ED.
 pub const DECIDING: usize = 4;
 
-/// 32 bytes, and those one to four before each of them. Only a set with surrogate pairs uses those
-/// three and four before.
+/// 32 bytes, and for each of them the bytes one to four places earlier. Only a set with surrogate
+/// pairs uses the bytes three and four places earlier.
 #[derive(Clone, Copy)]
 pub struct Block {
     pub bytes: u8x32,
@@ -66,15 +75,15 @@ pub struct Block {
     pub four_before: u8x32,
 }
 
-/// A set of characters, which its rule tells.
+/// A set of characters, given by its rule.
 pub trait CharacterSet {
     ghost set: { AnySet };
 
     fn rule() -> Rule
         ensures { result ≡ rule set };
 
-    /// Returns the block at an offset, whose 32 bytes the caller loaded, with those before that the
-    /// rule needs. No others are loaded.
+    /// Returns the block at an offset. The caller has loaded its 32 bytes; this loads only the
+    /// earlier bytes that the rule needs.
     fn block_at(block: u8x32, bytes: &[u8], at: usize) -> Block
         requires at { (DECIDING ≤ at) × (at + BLOCK ≤ length bytes.now) }
         requires block { block ≡ take BLOCK (drop at bytes.now) }
@@ -104,7 +113,7 @@ impl CharacterSet for Encoded {
     }
 }
 
-/// Those that are the same in UTF-8.
+/// The characters that are unchanged in UTF-8.
 pub struct Unchanged;
 
 impl CharacterSet for Unchanged {

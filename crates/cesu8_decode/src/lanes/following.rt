@@ -1,9 +1,10 @@
-//! Which bytes may follow which in whole characters, by vectors.
+//! Vector tests of which bytes can follow which in whole characters of a set.
 //!
-//! What two bytes show is compared with what the three before them want: the third byte of a
-//! character, and the second half of a surrogate pair. Where both are the same for each byte,
-//! all are in characters, but for those of the last one, which may be cut off. What is in no
-//! character of a set shows what nothing wants.
+//! Two adjacent bytes have a class: the second is, for example, the third byte of a character or
+//! the second byte of a low surrogate. The three bytes before the two say which class is required.
+//! If the class is the required one for every byte, all bytes are in characters of the set, except
+//! that the last character may be cut off. A pair of bytes that no character of the set has is of a
+//! class that is never required.
 
 ghost use Rattle.std.specs.Prelude.{◌≡◌, ℕ, List, ◌+◌, ◌*◌, ◌-◌, ◌<◌, ◌≤◌, ◌++◌, ◌==◌, ◌&&◌, IsTrue, false, length, take, map, drop, if◌then◌else◌, not};
 ghost use Rattle.std.specs.List.{range_with_len};
@@ -19,8 +20,8 @@ use cesu8_bytes::lanes::class::{Equal, NonAscii, bits, mask};
 use cesu8_bytes::lanes::runs::lanes_before;
 use std::simd::prelude::*;
 
-/// Returns 32 bytes, behind the last ones of as many. Zeros stand before the first: any ASCII would
-/// do, if `after_fillers` has it too, but they take the fewest instructions.
+/// Returns the block of 32 bytes that follow `before`. The first block follows zeros: any ASCII
+/// would be correct, if `after_fillers` used it too, but zeros take the fewest instructions.
 #[inline(always)]
 pub fn block_behind(before: u8x32, bytes: u8x32) -> Block
     ensures { (set : AnySet) → IsBlockAt set (drop (BLOCK - DECIDING) (before ++ bytes)) 0 result }
@@ -34,7 +35,8 @@ pub fn block_behind(before: u8x32, bytes: u8x32) -> Block
     }
 }
 
-/// Returns how many bytes of a block may follow those before them, up to the first that may not.
+/// Returns the offset in the block of the first byte that cannot follow the bytes before it, or the
+/// length of the block if there is none.
 #[inline(always)]
 pub fn following_len<F: Flavor, S: CharacterSet>(block: Block) -> usize
     ensures within { (window : List ℕ) (at : ℕ) → IsBlockAt S.set window at block → result ≤ BLOCK }
@@ -46,7 +48,7 @@ pub fn following_len<F: Flavor, S: CharacterSet>(block: Block) -> usize
     lanes_before::<HighestBit, BLOCK>(misplaced::<F, S>(block))
 }
 
-/// Returns whether each of the 64 bytes from an offset on may follow those before it.
+/// Returns whether each of the 64 bytes from an offset on can follow the bytes before it.
 #[inline(always)]
 pub fn two_follow<F: Flavor, S: CharacterSet>(bytes: &[u8], at: usize) -> bool
     requires { (DECIDING ≤ at) × (at + 2 * BLOCK ≤ length bytes.now) }
@@ -54,7 +56,7 @@ pub fn two_follow<F: Flavor, S: CharacterSet>(bytes: &[u8], at: usize) -> bool
 {
     let first = u8x32::from_slice(&bytes[at..]);
     let second = u8x32::from_slice(&bytes[at + BLOCK..]);
-    // What stands before each byte is loaded only behind this test.
+    // The earlier bytes are loaded only if this test for unchanged ASCII fails.
     let above = (first | nulls::<F>(first)) | (second | nulls::<F>(second));
     let deciding = u8x4::from_slice(&bytes[at - DECIDING..]);
     if bits::<NonAscii, BLOCK>(above) == 0 && bits::<NonAscii, DECIDING>(deciding) == 0 {
@@ -65,8 +67,8 @@ pub fn two_follow<F: Flavor, S: CharacterSet>(bytes: &[u8], at: usize) -> bool
     bits::<HighestBit, BLOCK>(misplaced::<F, S>(first) | misplaced::<F, S>(second)) == 0
 }
 
-/// Returns all ones for each byte of a block that may not follow those before it, and zeros for the
-/// others.
+/// Returns an error mask: FF for each byte of a block that cannot follow the bytes before it, and
+/// 00 for the others.
 #[inline(always)]
 fn misplaced<F: Flavor, S: CharacterSet>(block: Block) -> u8x32
     ensures { (window : List ℕ) (at : ℕ) → IsBlockAt S.set window at block
@@ -79,7 +81,7 @@ fn misplaced<F: Flavor, S: CharacterSet>(block: Block) -> u8x32
         .select(u8x32::splat(0), u8x32::splat(0xFF))
 }
 
-/// Returns what the second of each two bytes shows behind the first.
+/// Returns the class of each pair of bytes.
 #[inline(always)]
 fn shown_by<F: Flavor, S: CharacterSet>(first: u8x32, second: u8x32) -> u8x32
     ensures { result ≡ zip2 (shown S.set F.flavor) first second }
@@ -92,8 +94,8 @@ fn shown_by<F: Flavor, S: CharacterSet>(first: u8x32, second: u8x32) -> u8x32
     of_two
 }
 
-/// Returns the bits that bytes of MUTF-8 keep of what they show. Behind C0 alone bit 10
-/// (hexadecimal) is shown, so 80 clears it where C0 80 is a character of the set.
+/// Returns the class bits that are kept in MUTF-8, by the second byte. If the set has C0 80, a
+/// second byte 80 clears bit 10 (hexadecimal), which only a first byte C0 sets.
 #[inline(always)]
 fn kept_of_null<S: CharacterSet>(bytes: u8x32) -> u8x32
     ensures { result ≡ map (λ b. if has_changed S.set && b == 0x80 then 0xEF else 0xFF) bytes }
@@ -106,14 +108,16 @@ fn kept_of_null<S: CharacterSet>(bytes: u8x32) -> u8x32
     u8x32::splat(0xFF)
 }
 
-/// Returns what bytes have to show, by those four, three and two before them: 80 (hexadecimal) for
-/// the third byte of a character, 20 for the second of a low surrogate, and else 0.
+/// Returns the class that each byte is required to have, by the bytes two, three and four places
+/// earlier: 80 (hexadecimal) for the third byte of a character, 20 for the second byte of a low
+/// surrogate, and otherwise 0.
 #[inline(always)]
 fn wanted_by<S: CharacterSet>(four_before: u8x32, three_before: u8x32, two_before: u8x32) -> u8x32
     ensures { result ≡ zip2 (λ wants d. wants d)
         (zip2 (wanted S.set) four_before three_before) two_before }
 {
-    // The highest bit is left from a lead byte of three on.
+    // The highest bit is left if the byte is E0 or more, the lead byte of a character of three
+    // bytes.
     let third = two_before.saturating_sub(u8x32::splat(0xE0 - 0x80)) & u8x32::splat(0x80);
     if !S::rule().has_changed {
         return third;

@@ -1,7 +1,7 @@
-//! What begins at each offset of a vector, as masks with a bit for each byte.
+//! Which character begins at each offset of a vector, as masks with one bit for each byte.
 //!
-//! Comparisons make a mask of each class of bytes, and shifted by a bit it tells of the next byte.
-//! So a few operations tell at once where all characters of one form begin.
+//! Comparisons give a mask for each class of bytes. Shifted by one bit, such a mask is about the
+//! next byte. So a few operations on masks find all characters of one form at once.
 
 ghost use Rattle.std.specs.Prelude.{◌≡◌, ◌≤◌, ◌+◌, ◌&&◌, ◌||◌, ◌==◌, nat_le, nat_lt, slice_index};
 ghost use Rattle.cesu8_text.specs.Class.{is_null};
@@ -20,18 +20,19 @@ use cesu8_bytes::flavor::Flavor;
 use cesu8_bytes::lanes::class::{AtLeast, Either, Equal, LANES, NonAscii, Null, bits};
 use std::simd::prelude::*;
 
-/// What begins at so many offsets of 64 bytes lies within them, since no character is longer than
-/// six bytes.
+/// How many of 64 offsets can be decided: a character that begins there ends within the 64 bytes,
+/// since no character is longer than six bytes.
 pub const STEP: usize = LANES - 5;
 
-/// Where characters begin: bit `i` of a mask is set if one does at byte `i`.
+/// The starts of characters: bit `i` of a mask is set if a character of its form begins at byte
+/// `i`.
 #[derive(Clone, Copy)]
 pub struct Masks {
-    /// Bytes that are no character by themselves: not ASCII, and in MUTF-8 also 00.
+    /// Bytes that are not a character of one byte: bytes that are not ASCII, and in MUTF-8 also 00.
     pub others: u64,
-    /// Characters of two bytes, but not C0 80.
+    /// Characters of two bytes, except C0 80.
     pub twos: u64,
-    /// Characters of three bytes, but not the halves of a surrogate pair.
+    /// Characters of three bytes, except the halves of a surrogate pair.
     pub threes: u64,
     /// Surrogate pairs, of six bytes.
     pub pairs: u64,
@@ -39,8 +40,8 @@ pub struct Masks {
     pub nulls: u64,
 }
 
-/// Returns what begins at the first `count` bytes. Zeros follow the last. Most masks are made only
-/// if a byte needs them.
+/// Returns the masks for the first `count` bytes, as if zeros followed the last lane. Most masks
+/// are computed only if `others` is not 0.
 #[inline(always)]
 pub fn masks_of<F: Flavor, const N: usize>(lanes: Simd<u8, N>, count: usize) -> Masks
     requires lanes { N ≤ LANES }
@@ -59,7 +60,7 @@ pub fn masks_of<F: Flavor, const N: usize>(lanes: Simd<u8, N>, count: usize) -> 
             nulls: 0,
         };
     }
-    // Bytes from 80 on are continuation bytes, or have the next bit set too.
+    // A byte from 80 on is a continuation byte if the bit below its highest is clear.
     let from_c0 = high & bits_below::<N>(lanes, 1);
     let second = (high & !from_c0) >> 1;
     let from_c2 = bits::<AtLeast<0xC2>, N>(lanes);
@@ -88,7 +89,8 @@ fn first_bits(count: usize) -> u64
     (1 << count) - 1
 }
 
-/// Returns a bit for each byte in which the bit is set that is so many places below the highest.
+/// Returns a mask of the bytes in which one bit is set: the bit that is `below` places below the
+/// highest.
 #[inline(always)]
 fn bits_below<const N: usize>(lanes: Simd<u8, N>, below: u8) -> u64
     requires lanes { N ≤ LANES }
@@ -98,7 +100,7 @@ fn bits_below<const N: usize>(lanes: Simd<u8, N>, below: u8) -> u64
     bits::<NonAscii, N>(lanes << Simd::splat(below))
 }
 
-/// Returns a bit for each 00 in MUTF-8, where it is no character.
+/// Returns a mask of the bytes 00 in MUTF-8, in which 00 is not a character.
 #[inline(always)]
 fn null_bytes<F: Flavor, const N: usize>(lanes: Simd<u8, N>) -> u64
     requires { N ≤ LANES }
@@ -111,7 +113,7 @@ fn null_bytes<F: Flavor, const N: usize>(lanes: Simd<u8, N>) -> u64
     }
 }
 
-/// Returns where C0 80 begins in MUTF-8, by a mask of C0 and C1.
+/// Returns the offsets at which C0 80 begins in MUTF-8. `below_c2` marks C0 and C1.
 #[inline(always)]
 fn nulls_of<F: Flavor, const N: usize>(lanes: Simd<u8, N>, below_c2: u64) -> u64
     requires lanes { N ≤ LANES }
@@ -125,9 +127,10 @@ fn nulls_of<F: Flavor, const N: usize>(lanes: Simd<u8, N>, below_c2: u64) -> u64
     bits::<Equal<0xC0>, N>(lanes) & (bits::<Equal<0x80>, N>(lanes) >> 1)
 }
 
-/// Returns where characters of three bytes begin, and where surrogate pairs do. `leads` marks E0 or
-/// more before a continuation byte, and `second` any byte before one. `wide` marks bytes with the
-/// bit 20: of lead bytes E0 or more, and of continuation bytes A0 or more.
+/// Returns the starts of characters of three bytes, and those of surrogate pairs. `leads` marks
+/// bytes from E0 on that precede a continuation byte, and `second` any byte that precedes one.
+/// `wide` marks bytes with bit 20 (hexadecimal): lead bytes from E0 on, and continuation bytes from
+/// A0 on.
 #[inline(always)]
 fn threes_and_pairs<const N: usize>(
     lanes: Simd<u8, N>,
@@ -145,10 +148,11 @@ fn threes_and_pairs<const N: usize>(
     if leads == 0 {
         return (0, 0);
     }
-    // With the bit 10 lead bytes are F0 or more, and those of A0 or more are B0 or more.
+    // Bit 10 is set in lead bytes from F0 on, and among continuation bytes from A0 on in those from
+    // B0 on.
     let odd = bits_below::<N>(lanes, 3);
     let whole = leads & (second >> 1) & !odd;
-    // After other lead bytes any continuation byte may be the second.
+    // Any continuation byte can follow the other lead bytes.
     if whole & bits::<Either<Equal<0xE0>, Equal<0xED>>, N>(lanes) == 0 {
         return (whole, 0);
     }

@@ -1,4 +1,4 @@
-//! At most 64 bytes as one vector, with zeros after them.
+//! At most 64 bytes as one vector, padded with zeros.
 
 ghost use Rattle.std.specs.Prelude.{◌≡◌, ◌≤◌, ◌-◌, ◌++◌, length, replicate};
 
@@ -9,7 +9,7 @@ use cesu8_bytes::lanes::padded::padded_half;
 use cesu8_bytes::writing::put::put_lanes;
 use std::simd::prelude::*;
 
-/// Returns at most 64 bytes with zeros after them.
+/// Returns at most 64 bytes, padded with zeros.
 #[inline(always)]
 pub fn padded(bytes: &[u8]) -> u8x64
     requires { length bytes.now ≤ LANES }
@@ -20,7 +20,7 @@ pub fn padded(bytes: &[u8]) -> u8x64
     u8x64::from_array(all)
 }
 
-/// Copies at most 64 bytes to zeros, so that a load may pass the end of the bytes.
+/// Copies at most 64 bytes to an array of zeros, so that a load can go past their end.
 #[inline(always)]
 pub fn load(bytes: &[u8], source: &mut [u8])
     requires bytes { length bytes.now ≤ LANES }
@@ -28,7 +28,7 @@ pub fn load(bytes: &[u8], source: &mut [u8])
     requires room { LANES ≤ length source.old }
     ensures { source.new ≡ bytes.now ++ replicate (length source.old - length bytes.now) 0 }
 {
-    // Up to 32 bytes are stored at once, so that a load of them need not wait for two stores.
+    // Up to 32 bytes are stored at once, so that store-to-load forwarding works for a load of them.
     if is_one_block(bytes) {
         put_lanes(padded_half(bytes), source, 0);
         return;

@@ -1,4 +1,5 @@
-//! Looks bytes up in tables of sixteen entries, and moves bytes from one vector to the next.
+//! Look-ups of bytes in tables of sixteen entries, and the shuffles that shift bytes from one
+//! vector to the next.
 
 ghost use Rattle.std.specs.Prelude.{◌≡◌, ◌%◌, map, slice_index};
 ghost use Rattle.std.specs.Simd.Lanes.{zip2};
@@ -17,7 +18,7 @@ const TWICE: [usize; BLOCK] = [
     13, 14, 15,
 ];
 
-// The numbers of 32 lanes, from this one on.
+// Expands to 32 lane numbers, from the given one on.
 macro_rules! numbers_from {
     ($n:literal) => {
         numbers_from!(
@@ -29,7 +30,7 @@ macro_rules! numbers_from {
     };
 }
 
-// The indices of 32 lanes, from the number in the name on.
+// Shuffles of two blocks: 32 consecutive lanes, from the number in the name on.
 pub const FROM_28: [usize; BLOCK] = numbers_from!(28);
 
 pub const FROM_29: [usize; BLOCK] = numbers_from!(29);
@@ -38,8 +39,8 @@ pub const FROM_30: [usize; BLOCK] = numbers_from!(30);
 
 pub const FROM_31: [usize; BLOCK] = numbers_from!(31);
 
-/// Returns the common bits of three tables, for each two bytes: by the upper half of the first, by
-/// its lower half, and by the upper half of the second.
+/// Returns for each pair of bytes the bits that three table entries have in common: by the upper
+/// half of the first byte, by its lower half, and by the upper half of the second.
 #[inline(always)]
 pub fn common_bits(
     by_high: [u8; 16],
@@ -59,7 +60,8 @@ pub fn common_bits(
 pub fn look_up(table: [u8; 16], lanes: u8x32) -> u8x32
     ensures { result ≡ map (λ lane. slice_index table (lane % 16)) lanes }
 {
-    // Each half of the lanes looks into its own sixteen, so the table stands in both.
+    // Each half of the lanes is looked up in its own sixteen lanes, so the vector holds the table
+    // twice.
     u8x16::from_array(table)
         .swizzle::<32>(TWICE)
         .swizzle_dyn_within::<16>(lanes & u8x32::splat(15))

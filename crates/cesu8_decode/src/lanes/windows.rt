@@ -1,8 +1,8 @@
-//! What changes in a window of 64 bytes, and where its last character ends.
+//! The events in a window of at most 64 bytes, and where its last character ends.
 //!
-//! A byte is ill-formed if no character covers it, and the masks of what begins at each offset
-//! tell which bytes are covered. The next window begins where the last character ends, so no
-//! window needs to know anything of the one before it.
+//! The masks of the characters that begin at each offset show which bytes these characters cover. A
+//! byte that no character covers is ill-formed. The next window begins where the last character of
+//! this one ends, so a window depends on nothing before it.
 
 ghost use Rattle.std.specs.Prelude.{◌≡◌, ℕ, List, ◌+◌, ◌<◌, ◌≤◌, ◌⊎◌, true, length, slice_index};
 ghost use Rattle.cesu8_decode.specs.DecodedOffsets.{is_boundary_at, window_of};
@@ -17,20 +17,21 @@ use cesu8_bytes::lanes::class::LANES;
 use cesu8_bytes::lanes::padded::padded_half;
 use std::simd::prelude::*;
 
-/// What changes among the bytes of a window, as masks, and how many bytes these are.
+/// The events of a window, as masks, and its length.
 #[derive(Clone, Copy)]
 pub struct Window {
-    /// Bytes that no character covers.
+    /// The ill-formed bytes: those that no character covers.
     pub ill_formed: u64,
-    /// Where surrogate pairs begin.
+    /// The starts of surrogate pairs.
     pub pairs: u64,
-    /// Where C0 80 begins, in MUTF-8.
+    /// The starts of C0 80, in MUTF-8.
     pub nulls: u64,
-    /// Where the last character ends that begins in the window.
+    /// The end of the last character that begins in the window, as a number of bytes.
     pub len: usize,
 }
 
-/// Returns the window at a boundary, of the characters that begin at the next `count` offsets.
+/// Returns the window of the characters that begin at the next `count` offsets. `at` is a character
+/// boundary.
 #[inline(always)]
 pub fn window_at<F: Flavor>(bytes: &[u8], at: usize, count: usize) -> Window
     requires bytes { at + LANES ≤ length bytes.now }
@@ -43,8 +44,8 @@ pub fn window_at<F: Flavor>(bytes: &[u8], at: usize, count: usize) -> Window
     window_of_lanes::<F, LANES>(u8x64::from_slice(&bytes[at..]), count)
 }
 
-/// Returns the window of at most 64 bytes, which are all. Up to 32 are one vector of half the
-/// length.
+/// Returns the window of at most 64 bytes, which are the whole input. Up to 32 bytes need only a
+/// vector of half the length.
 #[inline(always)]
 pub fn window_of_few<F: Flavor>(bytes: &[u8]) -> Window
     requires { length bytes.now ≤ LANES }
@@ -57,8 +58,9 @@ pub fn window_of_few<F: Flavor>(bytes: &[u8]) -> Window
     window_of_lanes::<F, LANES>(padded(bytes), bytes.len())
 }
 
-/// Returns the window of the characters that begin at the first `count` lanes. Zeros follow the
-/// last lane. It is the window at a boundary of any bytes that are the same as far as they reach.
+/// Returns the window of the characters that begin at the first `count` lanes. It is also the
+/// window of any bytes at a character boundary, if the first `count + 5` bytes from there equal the
+/// lanes, with zeros after the last lane.
 #[inline(always)]
 fn window_of_lanes<F: Flavor, const N: usize>(lanes: Simd<u8, N>, count: usize) -> Window
     requires lanes { N ≤ LANES }
@@ -69,7 +71,7 @@ fn window_of_lanes<F: Flavor, const N: usize>(lanes: Simd<u8, N>, count: usize) 
         → (is : IsWindow F.flavor bytes at result) × (is.n ≡ count) }
 {
     let masks = masks_of::<F, N>(lanes, count);
-    // A surrogate pair covers what two characters of three bytes do.
+    // A surrogate pair covers the same bytes as two characters of three bytes.
     let threes = masks.threes | masks.pairs | (masks.pairs << 3);
     let begins = masks.twos | masks.nulls | threes;
     let covered = begins | (begins << 1) | (threes << 2);

@@ -1,7 +1,8 @@
-//! By how much a lossy text is shorter than three bytes for each byte that is read.
+//! By how many bytes the lossily decoded text is shorter than three bytes for each input byte.
 //!
-//! Each character saves some bytes, by its width, and an ill-formed byte saves none. So the masks
-//! of what begins at each offset give the sum, by how many of their bits are set.
+//! Each character saves a number of bytes that depends on its form, and an ill-formed byte saves
+//! none. So the sum follows from how many bits are set in the masks of the characters that begin at
+//! each offset.
 
 ghost use Rattle.std.specs.Prelude.{◌≡◌, ◌+◌, ◌-◌, ◌*◌, ◌<◌, ◌≤◌, length, drop};
 ghost use Rattle.cesu8_decode.specs.DecodedOffsets.{total_saved, saved_between};
@@ -26,7 +27,7 @@ pub fn saved_by_few<F: Flavor>(bytes: &[u8]) -> usize
     saved_by_lanes::<F, LANES>(padded(bytes), 0, bytes.len())
 }
 
-/// Returns what the next offsets save, as many as are whole in a vector.
+/// Returns what the next `STEP` offsets save: those whose characters end within a vector.
 #[inline(always)]
 pub fn saved_by_step<F: Flavor>(bytes: &[u8], at: usize) -> usize
     requires { at + LANES ≤ length bytes.now }
@@ -35,7 +36,7 @@ pub fn saved_by_step<F: Flavor>(bytes: &[u8], at: usize) -> usize
     saved_by_lanes::<F, LANES>(u8x64::from_slice(&bytes[at..]), 0, STEP)
 }
 
-/// Returns what the last `count` offsets save, by a vector of the last bytes.
+/// Returns what the last `count` offsets save, from a vector of the last 64 bytes.
 #[inline(always)]
 pub fn saved_by_last<F: Flavor>(bytes: &[u8], count: usize) -> usize
     requires { (0 < count) × (count ≤ LANES) × (LANES ≤ length bytes.now) }
@@ -45,7 +46,8 @@ pub fn saved_by_last<F: Flavor>(bytes: &[u8], count: usize) -> usize
     saved_by_lanes::<F, LANES>(lanes, LANES - count, count)
 }
 
-/// Returns what `count` offsets save, after those that were counted. Zeros follow the lanes.
+/// Returns what `count` offsets save, after the first `counted`. The lanes count as followed by
+/// zeros.
 #[inline(always)]
 fn saved_by_lanes<F: Flavor, const N: usize>(
     lanes: Simd<u8, N>,

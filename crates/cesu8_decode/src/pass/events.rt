@@ -1,8 +1,8 @@
-//! Writes what the bytes of a window become.
+//! Writes the text of a window.
 //!
 //! An event is a surrogate pair, C0 80 in MUTF-8, or a run of ill-formed bytes. The masks of a
-//! window have a bit for each, so one loop over the set bits finds them in turn. What is between
-//! two events stays as it is, and is copied.
+//! window have a bit for each, so one loop over the set bits finds all events in order. The bytes
+//! between two events are unchanged in UTF-8, and are copied.
 
 ghost use Rattle.std.specs.Prelude.{◌≡◌, ◌+◌, ◌*◌, ◌<◌, ◌≤◌, true, false, length, take, drop, replicate};
 ghost use Rattle.cesu8_text.specs.Text.{utf8};
@@ -27,7 +27,7 @@ use nulls::write_nulls;
 use replaced::{REPLACEMENT, write_replaced};
 use std::simd::prelude::*;
 
-/// How many bytes may be stored after the text of a window.
+/// How many bytes can be stored after the text of a window.
 pub const STORED_AFTER: usize = LANES;
 
 /// How many replacement characters one store writes.
@@ -39,19 +39,19 @@ const REPLACEMENTS: [u8; 32] = [
     0xBF, 0xBD, 0xEF, 0xBF, 0xBD, 0xEF, 0xBF, 0xBD, 0xEF, 0xBF, 0xBD, 0xEF, 0xBF, 0xBD, 0xEF, 0xBF,
 ];
 
-/// From so many C0 80 on, a window without other events is packed by shuffles.
+/// If a window has at least this many C0 80, and no other event, shuffles pack it.
 const MANY_NULLS: u32 = 4;
 
-/// From so many surrogate pairs and C0 80 on, all bytes of a window without ill-formed ones are
-/// changed at once. Fewer are written faster one after another.
+/// If a window has at least this many surrogate pairs and C0 80, and no ill-formed byte, all its
+/// bytes are converted at once. Fewer are faster one after another.
 const MANY_CHANGED: u32 = 4;
 
-/// From so many runs of ill-formed bytes on, a window without other events is packed by shuffles.
-/// The bytes of fewer runs are replaced faster by stores of the replacement character.
+/// If a window has at least this many runs of ill-formed bytes, and no other event, shuffles pack
+/// it. Fewer runs are faster by stores of the replacement character.
 const MANY_RUNS: u32 = 5;
 
-/// Writes what the bytes of a window become, and returns the end. No character crosses the front of
-/// the window. Strict reading has no byte that is ill-formed.
+/// Writes the text of a window, and returns its end. The window begins at a character boundary. In
+/// strict decoding it has no ill-formed byte.
 #[inline(always)]
 pub fn write_events<F: Flavor, S: Reading>(
     bytes: &[u8],
@@ -85,7 +85,7 @@ pub fn write_events<F: Flavor, S: Reading>(
     write_in_turn::<F, LossyReading>(bytes, at, window, out, end)
 }
 
-/// Writes the events one after another, and copies what is between them.
+/// Writes the events one after another, and copies the bytes between them.
 #[inline(always)]
 fn write_in_turn<F: Flavor, S: Reading>(
     bytes: &[u8],
@@ -102,7 +102,7 @@ fn write_in_turn<F: Flavor, S: Reading>(
     ensures { WritesAt (decoded F.flavor (window_of bytes.now) at window.len)
         end out.old out.new result }
 {
-    // Strict reading is compiled without what replaces ill-formed bytes.
+    // Strict decoding is compiled without the code that replaces ill-formed bytes.
     let ill_formed = match S::strictness() {
         Strictness::Strict => 0,
         Strictness::Lossy => window.ill_formed,
@@ -126,8 +126,8 @@ fn write_in_turn<F: Flavor, S: Reading>(
     copy_between(bytes, at + read, window.len - read, out, end)
 }
 
-/// Copies `count` bytes from an offset on, at most 64, and returns their end. Others come after
-/// them, so that no branch depends on the count.
+/// Copies `count` bytes, at most 64, from an offset on, and returns their end. It always stores 64
+/// bytes, so that no branch depends on the count.
 #[inline(always)]
 fn copy_between(bytes: &[u8], at: usize, count: usize, out: &mut [u8], end: usize) -> usize
     requires count { count ≤ LANES }
@@ -139,7 +139,8 @@ fn copy_between(bytes: &[u8], at: usize, count: usize, out: &mut [u8], end: usiz
     end + count
 }
 
-/// Writes the C0 80 or the surrogate pair at an offset in UTF-8. Returns its length and the end.
+/// Writes the UTF-8 of the C0 80 or the surrogate pair at an offset. Returns the length of that
+/// character and the end of its UTF-8.
 #[inline(always)]
 fn write_changed<F: Flavor>(
     bytes: &[u8],
@@ -163,7 +164,8 @@ fn write_changed<F: Flavor>(
     (PAIR, put(&utf8_of_pair(&bytes[at..]), out, end))
 }
 
-/// Writes the replacement character so many times, and returns the end. Others come after them.
+/// Writes `count` replacement characters, and returns their end. Each store writes ten, so bytes
+/// after the end are overwritten too.
 #[inline(always)]
 fn put_replacements(count: usize, out: &mut [u8], end: usize) -> usize
     requires count { count ≤ LANES }

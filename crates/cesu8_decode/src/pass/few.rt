@@ -1,7 +1,8 @@
-//! Writes the reading of at most 64 bytes, which is that of one window.
+//! Decodes at most 64 bytes, as one window.
 //!
-//! The test of the front has found which characters change, unless a byte is ill-formed. Then
-//! strict reading has no text, and lossy reading makes the window again.
+//! If no byte is ill-formed, the test for the unchanged prefix has found the characters that need
+//! conversion, and the window follows from them. Otherwise strict decoding returns an error, and
+//! lossy decoding computes the window again.
 
 ghost use Rattle.std.specs.Prelude.{◌≡◌, ℕ, ◌≤◌, length, slice_index, take};
 ghost use Rattle.cesu8_decode.specs.Decoding.{WritesReading, room_for_few};
@@ -18,11 +19,11 @@ use cesu8_bytes::lanes::class::{Equal, LANES, bits};
 use cesu8_bytes::strictness::{Reading, Strictness};
 use std::simd::prelude::*;
 
-/// The length of an array for the bytes, and zeros that are read after them.
+/// The length of an array for the bytes, and for the zeros after them that are loaded too.
 const SOURCE: usize = FEW_BYTES + LANES;
 
-/// Writes the reading of at most 64 bytes, unless strict reading refuses one of them. `front` is
-/// their front.
+/// Writes the decoded text of at most 64 bytes and returns its length, or returns an error if
+/// decoding is strict and a byte is ill-formed. `front` is their unchanged prefix.
 #[inline(always)]
 pub fn write_few<F: Flavor, S: Reading>(
     bytes: &[u8],
@@ -45,8 +46,8 @@ pub fn write_few<F: Flavor, S: Reading>(
     S::unless_refused(false, end)
 }
 
-/// Returns the window of the first `len` bytes of the source, by the mask of the characters that
-/// change. None of these bytes is ill-formed, and the characters that C0 begins are C0 80.
+/// Returns the window of the first `len` bytes of the source, none of which is ill-formed, from the
+/// mask of the characters that need conversion. In MUTF-8 those that begin with C0 are C0 80.
 #[inline(always)]
 fn changed_window<F: Flavor>(source: &[u8], changed: u64, len: usize) -> Window
     requires source { length source.now ≡ SOURCE }

@@ -1,8 +1,8 @@
-//! Writes what the bytes of one window become.
+//! Writes the text of one window.
 //!
-//! `window_at` tells by masks what changes in them and where the last character ends, and
-//! `write_events` writes that. A window begins and ends where no character is crossed, so windows
-//! can be written one after another. Strict reading writes none that has an ill-formed byte.
+//! `window_at` computes the masks of the events and where the last character ends, and
+//! `write_events` writes the text. A window begins and ends at character boundaries, so one can be
+//! written after another. In strict decoding a window with an ill-formed byte is not written.
 
 ghost use Rattle.std.specs.Prelude.{◌≡◌, ℕ, ◌+◌, ◌-◌, ◌≤◌, ◌⊎◌, true, false, length, slice_index};
 ghost use Rattle.cesu8_decode.specs.Decoding.{WritesDecoded, most_written};
@@ -14,29 +14,30 @@ use cesu8_bytes::flavor::Flavor;
 use cesu8_bytes::lanes::class::LANES;
 use cesu8_bytes::strictness::{Reading, Strictness};
 
-/// The most bytes that are written for one byte: those of the replacement character.
+/// The most bytes that are written for one byte: the length of the replacement character.
 pub const WIDEST: usize = 3;
 
-/// The room that `write_window` needs: for the longest text, and for what is stored after it.
+/// How many bytes `write_window` needs in the buffer: for the longest text of a window, and for
+/// what is stored after it.
 pub const ROOM: usize = WIDEST * LANES + STORED_AFTER;
 
-/// How many bytes a window reads at most after those that it is asked for. They are the last bytes
-/// of a character.
+/// The most bytes that a window can read after the `count` bytes that it is called for. They are
+/// the last bytes of a character.
 pub const READ_AFTER: usize = LANES - STEP;
 
-/// What came of a window: how many bytes were read, the end of what is written for them, and
-/// whether strict reading refuses one of them.
+/// The result of a window: how many bytes were read, the end of the text, and whether strict
+/// decoding rejects one of the bytes.
 #[derive(Drop)]
 pub struct Written {
     pub read: usize,
     pub end: usize,
     pub is_refused: bool,
-    /// Whether the bytes are written as they are.
+    /// Whether the window has no event, so that its bytes were copied.
     pub is_unchanged: bool,
 }
 
-/// Writes what becomes of the next `count` bytes, and of the last bytes of a character that begins
-/// in these. More than `STEP` have to be the last ones, with zeros after them.
+/// Writes the text of the next `count` bytes and of the rest of a character that begins in them. If
+/// `count` is more than `STEP`, these bytes are the last ones of the input, and zeros follow them.
 #[inline(always)]
 pub fn write_window<F: Flavor, S: Reading>(
     bytes: &[u8],

@@ -1,9 +1,9 @@
-//! Windows in turn: the text of each is written after that of the one before.
+//! The decoding loop: writes the text of one window after another.
 //!
-//! A window begins where the last character of the one before ends, so nothing else is carried from
-//! one to the next, and a pass can stop after any window if the buffer is full. Windows are read in
-//! place, but a window at the end has bytes after it that are read too. So the last bytes are
-//! copied to an array, with zeros after them.
+//! A window begins at the end of the last character of the window before it, so nothing else is
+//! carried over, and the pass can stop after any window if the buffer is full. Windows are read in
+//! place, but vectors also load bytes after a window. So the last bytes of the input are copied to
+//! an array, with zeros after them.
 
 ghost use Rattle.std.specs.Prelude.{◌≡◌, ℕ, ◌+◌, ◌-◌, ◌*◌, ◌<◌, ◌≤◌, false, length};
 ghost use Rattle.cesu8_decode.specs.Decoding.{IsPass, GoesOn, WritesReading, pass_from, room_for};
@@ -21,7 +21,8 @@ use cesu8_bytes::pairs::{PAIR, PAIR_READ, PAIR_UTF8, is_pair, utf8_of_pair};
 use cesu8_bytes::strictness::Reading;
 use cesu8_bytes::writing::put::put;
 
-// Buffers for the text of so many bytes of `way`, and `ROOM` after it, as the pass needs to go on.
+// The lengths of buffers: for the longest text of so many bytes (`way`), and `ROOM` more, without
+// which the pass stops. The text of one window (`FEW`) needs only `STORED_AFTER` more.
 pub const SMALL_STRICT: usize = SMALL_ARRAY + ROOM;
 
 pub const LARGE_STRICT: usize = LARGE_ARRAY + ROOM;
@@ -36,18 +37,19 @@ pub const LARGE_LOSSY: usize = WIDEST * LARGE_ARRAY + ROOM;
 
 pub const LARGEST_LOSSY: usize = WIDEST * LARGEST_ARRAY + ROOM;
 
-/// How many bytes a window in place needs from its start on: its own, and as many that may be
-/// copied after them.
+/// How many bytes of input a window in place needs: its own, and as many that can be loaded after
+/// them.
 const IN_PLACE: usize = 2 * LANES;
 
-/// How many bytes before an offset tell whether a character crosses it.
+/// How many bytes before an offset decide whether a character crosses it.
 const BEFORE: usize = 5;
 
-/// The length of an array for the last bytes: with those before, and zeros that are read after.
+/// The length of an array for the last bytes, the five before them, and the zeros that are loaded
+/// after them.
 const AROUND: usize = BEFORE + IN_PLACE + READ_AFTER + LANES;
 
-/// How far the pass came: how many bytes were read, where their text ends, and whether strict
-/// reading refuses one of them.
+/// The state of the pass: how many bytes were read, the end of their text, and whether strict
+/// decoding rejects one of them.
 #[derive(Drop)]
 pub struct Pass {
     pub read: usize,
@@ -55,9 +57,9 @@ pub struct Pass {
     pub is_refused: bool,
 }
 
-/// Goes on with the pass from a boundary, as long as there is room after the text for that of a
-/// window. It ends at a window that strict reading refuses. It is not inlined, since many calls
-/// need it.
+/// Continues the pass from a character boundary, as long as the buffer has space for the text of
+/// another window. It stops at a window that strict decoding rejects. It is not inlined, since it
+/// has many callers.
 #[inline(never)]
 pub fn write_windows<F: Flavor, S: Reading>(bytes: &[u8], read: usize, out: &mut [u8]) -> Pass
     requires pass { IsPass F.flavor bytes.now read }
@@ -76,8 +78,8 @@ pub fn write_windows<F: Flavor, S: Reading>(bytes: &[u8], read: usize, out: &mut
     write_last::<F, S>(bytes, pass, limit, out)
 }
 
-/// Writes the text of all bytes to a buffer that has room for it, unless strict reading refuses one
-/// of them.
+/// Writes the text of all bytes to a buffer with enough space and returns its length, or returns an
+/// error if decoding is strict and a byte is ill-formed.
 #[inline(always)]
 pub fn write_all<F: Flavor, S: Reading>(bytes: &[u8], out: &mut [u8]) -> Result<usize, S::Refusal>
     requires { room_for S.which (length bytes.now) ≤ length out.old }
@@ -87,8 +89,8 @@ pub fn write_all<F: Flavor, S: Reading>(bytes: &[u8], out: &mut [u8]) -> Result<
     S::unless_refused(pass.is_refused, pass.end)
 }
 
-/// Writes the surrogate pairs that come next, one after another. If most bytes are of pairs, that
-/// takes less time than their windows.
+/// Writes the surrogate pairs that come next, one after another. If the text is mostly surrogate
+/// pairs, this is faster than windows.
 #[inline(always)]
 fn write_pairs<F: Flavor, S: Reading>(
     bytes: &[u8],
@@ -101,7 +103,8 @@ fn write_pairs<F: Flavor, S: Reading>(
     ensures more { GoesOn F.flavor S.which bytes.now (pass_from read) result out.old out.new }
     ensures fine { result.is_refused ≡ false }
 {
-    // No more pairs are looked at than there is room for, so that it is not asked for each.
+    // The loop ends at the last pair that the buffer has space for, so that it need not test the
+    // space for each.
     let stop = read + (bytes.len() - read).min(limit / PAIR_UTF8 * PAIR + PAIR_READ);
     let last = stop.saturating_sub(PAIR_READ - 1);
     let mut at = read;
@@ -117,7 +120,7 @@ fn write_pairs<F: Flavor, S: Reading>(
     }
 }
 
-/// Writes windows that are read in place, up to the last bytes or as long as there is room.
+/// Writes windows that are read in place, until the last bytes or as long as there is space.
 #[inline(always)]
 fn write_in_place<F: Flavor, S: Reading>(
     bytes: &[u8],
@@ -143,7 +146,8 @@ fn write_in_place<F: Flavor, S: Reading>(
             end: window.end,
             is_refused: window.is_refused,
         };
-        // After two windows in a row in which nothing changes, a test of more bytes takes less time.
+        // After two successive windows without an event, a test for a longer unchanged run is
+        // faster.
         if was_unchanged && window.is_unchanged && pass.end <= limit {
             pass = copy_unchanged::<F, S>(bytes, pass, limit, out);
         }
@@ -152,8 +156,8 @@ fn write_in_place<F: Flavor, S: Reading>(
     pass
 }
 
-/// Copies the next characters that are the same in UTF-8, up to one that is not, or as many as have
-/// room.
+/// Copies the next characters that are unchanged in UTF-8, up to the first that is not, or as many
+/// as there is space for.
 #[inline(always)]
 fn copy_unchanged<F: Flavor, S: Reading>(
     bytes: &[u8],
@@ -181,8 +185,8 @@ fn copy_unchanged<F: Flavor, S: Reading>(
     }
 }
 
-/// Writes the windows of the last bytes, as long as there is room. They are copied to an array, and
-/// so are five bytes before them.
+/// Writes the windows of the last bytes, as long as there is space. These bytes and the five before
+/// them are copied to an array first.
 #[inline(always)]
 fn write_last<F: Flavor, S: Reading>(
     bytes: &[u8],

@@ -5,7 +5,7 @@ use Rattle.std.proofs.lemmas.List.{take_rest}
 use Rattle.cesu8_decode.proofs.chunks.Utf8Parts.{after_utf8}
 use Rattle.cesu8_decode.proofs.accepts.all_if_utf8.Goals as goal
 
--- From the start or from the end of the front on, bytes are UTF-8 exactly if all are.
+-- From the start or from the end of a prefix that is UTF-8, the bytes are UTF-8 exactly if all are.
 from_either : (bytes : List ℕ) (n start : ℕ) → n ≤ length bytes → IsUtf8 (take n bytes) → (start ≡ 0) ⊎ (start ≡ n) → IsUtf8 (drop start bytes) ↔ IsUtf8 bytes
 from_either bytes n start within front (inl first) = subst (λ k. IsUtf8 (drop k bytes) ↔ IsUtf8 bytes) (sym first) (λ is. is, λ is. is)
 from_either bytes n start within front (inr behind) = subst (λ k. IsUtf8 (drop k bytes) ↔ IsUtf8 bytes) (sym behind) (after_utf8 bytes n within front)

@@ -7,7 +7,7 @@ use Rattle.cesu8_decode.proofs.decoder.FollowingBlocks.{ones_follow, first_of_fr
 use Rattle.cesu8_decode.proofs.front.following_many.Goals as goal
 use Rattle.cesu8_decode.proofs.front.following_many.Goals.{then-run-eq0+else-len-ne-BLOCK, else-run-eq0}
 
--- What holds of the first block, behind fillers, holds of the bytes at the front.
+-- What holds for the first block after four zeros holds for the first bytes.
 in_block : (s : CharacterSet) (f : Flavor) (bytes : List ℕ) (n : ℕ) → 32 ≤ length bytes → n ≤ 32 →
     AllFollow s f (after_fillers (take 32 bytes)) 0 n → (n < 32 → follows_at s f (after_fillers (take 32 bytes)) (0 + n) ≡ false) → FollowUpTo s f (take 32 bytes) n
 in_block s f bytes n long inside follow stops =

@@ -7,15 +7,15 @@ use Rattle.cesu8_decode.proofs.chunks.Fronts.{crosses_next, crosses_second, cut_
 use Rattle.cesu8_decode.proofs.decoder.FollowingBlocks.{behind_fillers}
 use Rattle.cesu8_decode.proofs.front.last_boundary.Goals as goal
 
--- Before the bytes stand four fillers,
+-- The first four bytes are the zeros before the bytes.
 filler : (bytes : List ℕ) (i : ℕ) → i < 4 → get_or (after_fillers bytes) i 0 ≡ 0
 filler bytes i near = eqb-true _ _ (agree_below_at (λ i. eqb (get_or (after_fillers bytes) i 0) 0) (λ _. true) 4 i refl near)
 
--- and behind them each byte.
+-- After the four zeros are the bytes.
 there : (bytes : List ℕ) (i j : ℕ) → i + 4 ≡ j → get_or (after_fillers bytes) j 0 ≡ get_or bytes i 0
 there bytes i j here = ap (λ k. get_or (after_fillers bytes) k 0) (sym here) ∙ behind_fillers bytes i
 
--- None is cut off where the last two lead to nothing behind.
+-- If neither of the last two bytes leads a character that is cut off, the prefix ends here.
 none_cut : (s : CharacterSet) (f : Flavor) (bytes : List ℕ) (at : ℕ) → FollowUpTo s f bytes at → has_changed s ≡ false →
     get_or (after_fillers bytes) (at + 3) 0 < 0xC0 → get_or (after_fillers bytes) (at + 2) 0 < 0xE0 → IsFront s f bytes at
 none_cut s f bytes at up_to none last second =

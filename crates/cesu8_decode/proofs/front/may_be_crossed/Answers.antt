@@ -3,7 +3,7 @@ use Rattle.std.proofs.lemmas.Bool.{lt-leb, not-true, not-false}
 use Rattle.cesu8_decode.specs.Following.{CharacterSet, Encoded, Unchanged, has_changed, is_high_surrogate, after_fillers}
 use Rattle.cesu8_decode.proofs.front.may_be_crossed.Goals as goal
 
--- A set with what changes is one.
+-- The set with characters that need conversion is `Encoded`.
 encoded_if : (s : CharacterSet) → has_changed s ≡ true → s ≡ Encoded
 encoded_if Encoded meant = refl
 encoded_if Unchanged meant = absurd (true≢false (sym meant))

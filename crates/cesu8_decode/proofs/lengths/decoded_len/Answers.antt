@@ -38,7 +38,7 @@ returns-then-not-begins_changed-clause-none g c =
           (rw take_rest at (w.is_ill_formed.ensures.ill_formed w.if-is_ill_formed.true))
     ]
 
--- The length of the strict reading fits.
+-- The length of the strict reading fits `usize`.
 pub returns-in_err-rest_len-clause-none : goal.returns-in_err-rest_len-clause-none
 returns-in_err-rest_len-clause-none g c =
     let f = g.F.Flavor.flavor in

@@ -1,10 +1,11 @@
-//! Writes what the bytes of a window become if it has many surrogate pairs and no ill-formed byte.
+//! Writes the text of a window with many surrogate pairs and no ill-formed byte.
 //!
-//! The masks of the window tell which bytes are left out. Which others change, the bytes tell by
-//! themselves: if none is ill-formed, ED and one of A0 to AF begin a pair. So vectors make of each
-//! byte what is written for it, and shuffles pack what is left, eight bytes at a time, with no
-//! branch on a byte. Of C0 80 the first byte goes, and the second becomes 00. The six bytes of a
-//! surrogate pair, ED and two, twice, become four:
+//! Vectors compute for each byte what is written for it, and shuffles pack the bytes that are not
+//! dropped, eight at a time, with no branch on a byte. The masks of the window say which bytes are
+//! dropped. Which other bytes are converted follows from the bytes themselves: if none is
+//! ill-formed, ED and a byte from A0 to AF begin a surrogate pair. Of C0 80 the first byte is
+//! dropped, and the second becomes 00. A surrogate pair has six bytes, ED and two more, twice; they
+//! become four:
 //!
 //! ```text
 //! first, second ──► nothing                       fifth ──► two bits of the third, four of its own
@@ -30,8 +31,8 @@ use cesu8_bytes::writing::packing::store_kept;
 use std::simd::prelude::*;
 
 /// The first byte of the UTF-8 of a surrogate pair, by the lower half of the pair's second byte.
-/// The next two tables have the upper bits of the UTF-8's second byte, by the same half, and of its
-/// third byte, by the lower half of the pair's third byte.
+/// The next two tables hold the upper bits of the second byte of the UTF-8, by the same half, and
+/// of its third byte, by the lower half of the pair's third byte.
 const FIRST_BY_SECOND: [u8; 16] = [
     0xF0, 0xF0, 0xF0, 0xF1, 0xF1, 0xF1, 0xF1, 0xF2, 0xF2, 0xF2, 0xF2, 0xF3, 0xF3, 0xF3, 0xF3, 0xF4,
 ];
@@ -44,9 +45,8 @@ const THIRD_BY_THIRD: [u8; 16] = [
     0x80, 0x90, 0xA0, 0xB0, 0x80, 0x90, 0xA0, 0xB0, 0x80, 0x90, 0xA0, 0xB0, 0x80, 0x90, 0xA0, 0xB0,
 ];
 
-/// Writes what the bytes of a window become that has no ill-formed byte, and returns the end. No
-/// character crosses the front of the window. It is not inlined, since windows are written at many
-/// places.
+/// Writes the text of a window without ill-formed bytes, and returns its end. The window begins at
+/// a character boundary. It is not inlined, since it has many callers.
 #[inline(never)]
 pub fn put_changed<F: Flavor>(
     bytes: &[u8],
@@ -66,14 +66,16 @@ pub fn put_changed<F: Flavor>(
     let gone = window.pairs | window.pairs << 1 | window.nulls;
     let first = u8x32::from_slice(&bytes[at..]);
     let second = u8x32::from_slice(&bytes[at + BLOCK..]);
-    // Zeros stand for the bytes before the window, of which none is in a character that goes on.
+    // Zeros stand in for the bytes before the window. No character extends from them into the
+    // window.
     let end = store_kept(changed(u8x32::splat(0), first), gone as usize, out, end);
     let end = store_kept(changed(first, second), (gone >> BLOCK) as usize, out, end);
-    // Each byte after the window was stored too.
+    // One byte was also stored for each byte from the end of the window to the 64th.
     end - (LANES - window.len)
 }
 
-/// Returns what is written for each of 32 bytes, unless it is left out, by the 32 before them.
+/// Returns for each of 32 bytes what is written for it unless it is dropped. That depends on the
+/// four bytes before it.
 #[inline(always)]
 fn changed(before: u8x32, bytes: u8x32) -> u8x32
     ensures { result ≡ map (changed_byte (slice_index (drop (BLOCK - DECIDING) (before ++ bytes))))
@@ -91,7 +93,7 @@ fn changed(before: u8x32, bytes: u8x32) -> u8x32
     chosen(block.two_before, block.one_before, first, changed)
 }
 
-/// Returns bytes, with 00 for each that follows C0.
+/// Returns the bytes, with 00 in place of each byte that follows C0.
 #[inline(always)]
 fn zeroed(before: u8x32, bytes: u8x32) -> u8x32
     ensures { result ≡ sel_l (map (λ b. b == 0xC0) before) (replicate BLOCK 0) bytes }
@@ -101,7 +103,8 @@ fn zeroed(before: u8x32, bytes: u8x32) -> u8x32
         .select(u8x32::splat(0), bytes)
 }
 
-/// Returns the lanes of `some` if two bytes begin a high surrogate, and otherwise those of `other`.
+/// Returns the lane of `some` if the two bytes there begin a high surrogate, and otherwise that of
+/// `other`.
 #[inline(always)]
 fn chosen(first: u8x32, second: u8x32, some: u8x32, other: u8x32) -> u8x32
     ensures { result ≡ sel_l (zip2 is_high_surrogate first second) some other }

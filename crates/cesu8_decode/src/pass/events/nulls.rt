@@ -1,7 +1,7 @@
-//! Writes what the bytes of a window become if many of them are C0 80, and nothing else changes.
+//! Writes the text of a window in which many bytes are C0 80, and which has no other event.
 //!
-//! C0 becomes 00 and 80 is left out, so shuffles pack the bytes eight at a time, with no branch on
-//! a byte.
+//! C0 becomes 00 and 80 is dropped, so shuffles pack the bytes eight at a time, with no branch on a
+//! byte.
 
 ghost use Rattle.std.specs.Prelude.{◌≡◌, ◌+◌, ◌≤◌, ◌==◌, if◌then◌else◌, true, length, map};
 ghost use Rattle.cesu8_bytes.specs.Puts.{WritesAt};
@@ -15,8 +15,8 @@ use cesu8_bytes::lanes::class::LANES;
 use cesu8_bytes::writing::packing::store_kept;
 use std::simd::prelude::*;
 
-/// Writes what the bytes of a window become that has no other events than C0 80, and returns the
-/// end. No character crosses the front of the window.
+/// Writes the text of a window that has no other events than C0 80, and returns its end. The window
+/// begins at a character boundary.
 #[inline(always)]
 pub fn write_nulls<F: Flavor>(
     bytes: &[u8],
@@ -41,11 +41,11 @@ pub fn write_nulls<F: Flavor>(
         end = store_kept(zeroed(block), (left_out >> written) as usize, out, end);
         written += BLOCK;
     }
-    // Each byte that follows the window was stored too.
+    // One byte was also stored for each byte from the end of the window to the 64th.
     end - (written - window.len)
 }
 
-/// Returns the bytes with 00 for C0.
+/// Returns the bytes, with 00 in place of C0.
 #[inline(always)]
 fn zeroed(bytes: u8x32) -> u8x32
     ensures { result ≡ map (λ b. if b == 0xC0 then 0 else b) bytes }

@@ -1,7 +1,7 @@
-//! Writes what the bytes of a window become if many of them are ill-formed, and nothing else changes.
+//! Writes the text of a window in which many bytes are ill-formed, and which has no other event.
 //!
-//! Four bytes at a time are packed by the shuffle that puts the replacement character in place of
-//! each that is ill-formed, with no branch on a byte.
+//! Four bytes at a time are packed by a shuffle that puts the replacement character in place of
+//! each ill-formed byte, with no branch on a byte.
 
 ghost use Rattle.std.specs.Prelude.{◌≡◌, List, Bool, ◌+◌, ◌*◌, ◌<◌, ◌≤◌, true, false, length, take, replicate};
 ghost use Rattle.std.specs.Simd.Lanes.{mask_l};
@@ -16,9 +16,9 @@ use cesu8_bytes::lanes::class::LANES;
 use cesu8_bytes::writing::packing::{HALF, STORED, picked, second_of};
 use std::simd::prelude::*;
 
-/// The shuffles for four bytes, in lanes 0 to 3. Lanes 4 to 6 have the replacement character, which
-/// takes the place of byte `i` in row `d` if bit `i` of `d` is set. The last number is how many
-/// bytes are written.
+/// The shuffles for four bytes, which are in lanes 0 to 3. Lanes 4 to 6 hold the replacement
+/// character. In row `d` it takes the place of byte `i` if bit `i` of `d` is set. The last number
+/// of a row is how many bytes it writes.
 const ROWS: [[u8; 16]; 16] = [
     [0, 1, 2, 3, 0, 0, 0, 0, 0, 0, 0, 0, 0, 0, 0, 4],
     [4, 5, 6, 1, 2, 3, 0, 0, 0, 0, 0, 0, 0, 0, 0, 6],
@@ -43,11 +43,11 @@ const REPLACEMENTS: [u8; 16] = [
     0xEF, 0xBF, 0xBD, 0, 0xEF, 0xBF, 0xBD, 0, 0xEF, 0xBF, 0xBD, 0, 0xEF, 0xBF, 0xBD, 0,
 ];
 
-/// How many bytes the replacement character has.
+/// The length of the replacement character in bytes.
 pub const REPLACEMENT: usize = 3;
 
-/// Writes what the bytes of a window become that has no other events than ill-formed bytes, and
-/// returns the end. No character crosses the front of the window.
+/// Writes the text of a window that has no other events than ill-formed bytes, and returns its end.
+/// The window begins at a character boundary.
 #[inline(always)]
 pub fn write_replaced<F: Flavor>(
     bytes: &[u8],
@@ -71,12 +71,12 @@ pub fn write_replaced<F: Flavor>(
         end = store_replaced(half, (window.ill_formed >> written) as usize, out, end);
         written += HALF;
     }
-    // Each byte that follows the window was stored too.
+    // One byte was also stored for each byte from the end of the window to the 64th.
     end - (written - window.len)
 }
 
-/// Stores sixteen bytes with the replacement character for those whose bit is set, and returns the
-/// end. Bits above these tell nothing.
+/// Stores sixteen bytes, with the replacement character in place of those whose bit is set, and
+/// returns the end. The bits above the sixteen are ignored.
 #[inline(always)]
 fn store_replaced(bytes: u8x16, ill_formed: usize, out: &mut [u8], at: usize) -> usize
     requires { at + REPLACEMENT * HALF + STORED ≤ length out.old }
@@ -98,7 +98,8 @@ fn store_replaced(bytes: u8x16, ill_formed: usize, out: &mut [u8], at: usize) ->
     store_four(second_of(third), ill_formed >> 12 & 0x0F, out, at)
 }
 
-/// Stores four bytes with the replacement character for those whose bit is set, and returns the end.
+/// Stores four bytes, with the replacement character in place of those whose bit is set, and
+/// returns the end.
 #[inline(always)]
 fn store_four(lanes: u8x16, ill_formed: usize, out: &mut [u8], at: usize) -> usize
     requires small { ill_formed < 0x10 }

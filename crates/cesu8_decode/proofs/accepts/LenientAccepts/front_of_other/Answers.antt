@@ -11,7 +11,7 @@ use Rattle.cesu8_decode.proofs.chunks.UnchangedFronts.{all_kept, changed_behind,
 use Rattle.cesu8_decode.proofs.accepts.LenientAccepts.front_of_other.Goals as goal
 use Rattle.cesu8_decode.proofs.accepts.LenientAccepts.front_of_other.Goals.{then-front-bytes-via-then-front-bytes, then-front-bytes-via-else-front-bytes+then-not-matches, in_default, in_default-2, in-0, in-0-2}
 
--- A byte that changes is 0, or leads four.
+-- A byte of UTF-8 that needs conversion is 00 or the lead byte of four bytes.
 changed_is : (f : Flavor) (b : ℕ) → IsChangedByte f b → (b ≡ 0) ⊎ ((0xF0 ≤ b) × (b ≤ 0xF7))
 changed_is Cesu8 b is = grind (arith, nat_tests)
 changed_is Mutf8 b is = grind (arith, nat_tests)

@@ -3,7 +3,7 @@ use Rattle.std.proofs.Math.Seq.{take-append-add, take-append_seam}
 use Rattle.std.proofs.lemmas.List.{take-append-le, take-take}
 use Rattle.cesu8_decode.proofs.destinations.chunks.append_next.Goals as goal
 
--- What is written behind a front stays, up to its end.
+-- What is written after a prefix is unchanged by a truncation at its end.
 written_behind : (start end len : ℕ) (front new other more : List ℕ) → length front ≡ start → end ≤ length new → start + end ≤ len →
     take (start + end) (take len ((front ++ (new ++ other)) ++ more)) ≡ front ++ take end new
 written_behind start end len front new other more long inside fits =

@@ -23,7 +23,7 @@ loop-read-init g c =
       len = refl;
     }
 
--- What is put fits behind what was put so far.
+-- The next chunk fits after what was written so far.
 fits : (f : Flavor) (bytes out chunk : List ℕ) (end n : ℕ) → IsDecoded f Lossy (window_of bytes) 0 n [] (take end out ++ chunk) false → n ≤ length bytes →
     lossy_length f bytes ≤ length out → end ≤ length out → end + length chunk ≤ length out
 fits f bytes out chunk end n is inside room so_far =

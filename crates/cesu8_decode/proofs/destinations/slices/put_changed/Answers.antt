@@ -18,12 +18,12 @@ returns-then-not-begins_changed g c =
       unless_begun f bytes c.args.front c.requires.front.0 (λ begun. both_ways c.begins_changed.result c.if-not-begins_changed.true (tells.1 begun)) c.requires.front.1,
     )
 
--- Nothing stands behind what is written from an offset to the end.
+-- A write from an offset to the end leaves nothing after it.
 to_end : (start : ℕ) (buf new : List ℕ) → put_mid start (length buf - start) buf new ≡ take start buf ++ new
 to_end start buf new =
     ap (λ bs. take start buf ++ bs) (ap (λ bs. new ++ bs) (drop_all (length buf - start) (drop start buf) (omega (arith, length-drop start buf))) ∙ append-nil new)
 
--- So all stays where that stays.
+-- If the bytes from an offset on are unchanged, the whole slice is.
 stays : (start : ℕ) (buf new : List ℕ) → new ≡ drop start buf → put_mid start (length buf - start) buf new ≡ buf
 stays start buf new same = to_end start buf new ∙ ap (λ bs. take start buf ++ bs) same ∙ take-append-drop start buf
 

@@ -4,13 +4,13 @@ use Rattle.std.proofs.lemmas.List.{drop-drop, drop-replicate, length-replicate, 
 use Rattle.cesu8_bytes.specs.Puts.{PutsAt}
 use Rattle.cesu8_decode.proofs.lanes.padded.load.Goals as goal
 
--- Zeros are left behind a block.
+-- After a block is stored, zeros are left after it.
 zeros_behind : (source : List ℕ) (at n : ℕ) → drop at source ≡ replicate (n - at) 0 → drop (at + 32) source ≡ replicate (n - (at + 32)) 0
 zeros_behind source at n zeros =
     let here : n - at - 32 ≡ n - (at + 32) = omega arith in
     sym (drop-drop 32 at source) ∙ ap (drop 32) zeros ∙ drop-replicate 32 (n - at) 0 ∙ ap (λ m. replicate m 0) here
 
--- The last block is put behind those before it.
+-- The last block is stored after the bytes before it.
 filled : (bytes source block new : List ℕ) (at end n : ℕ) → at ≤ length bytes → length bytes ≤ at + 32 → at + 32 ≤ n →
     take at source ≡ take at bytes → drop at source ≡ replicate (n - at) 0 →
     block ≡ drop at bytes ++ replicate (32 - length (drop at bytes)) 0 → PutsAt block at source new end →

@@ -3,7 +3,7 @@ use Rattle.cesu8_decode.proofs.by_offset.CharacterBoundaries.{boundary_of_zeros}
 use Rattle.cesu8_decode.proofs.decoder.FewWindows.{alike_with_zeros, ends_with_bytes}
 use Rattle.cesu8_decode.proofs.lanes.windows.window_of_few.Goals as goal
 
--- The lanes are read like the bytes.
+-- The lanes agree with the bytes at every offset.
 lanes_alike : (bytes lanes : List ℕ) (m n : ℕ) → lanes ≡ bytes ++ replicate m 0 → (i : ℕ) → i < n → get_or lanes i 0 ≡ get_or bytes (0 + i) 0
 lanes_alike bytes lanes m n is i small = alike_with_zeros bytes lanes m is i ∙ ap (λ k. get_or bytes k 0) (sym (zero-add i))
 

@@ -12,7 +12,7 @@ use Rattle.cesu8_decode.proofs.decoder.WindowEnds.{none_in_window}
 use Rattle.cesu8_decode.proofs.pass.few.write_few.Goals as goal
 use Rattle.cesu8_decode.proofs.pass.few.write_few.Goals.{then-front-ne0, else-front-ne0+in-Lossy}
 
--- Lossy reading is not strict.
+-- Decoding is not both strict and lossy.
 not_both : (which : Strictness) → which ≡ Lossy → which ≡ Strict → ⊥
 not_both which lossy strict = grind arith
 

@@ -20,7 +20,7 @@ pub are_last : (bytes last new : List ℕ) (first : ℕ) → last ≡ replicate 
     (k : ℕ) → get_or new k 0 ≡ get_or bytes (first + k) 0
 are_last bytes last new first zeros copied = copied_to_zeros bytes new first 202 last zeros copied
 
--- It begins at the first byte, or has the five bytes before.
+-- The array begins at the first byte, or five bytes before the offset.
 either : (first before at : ℕ) → first ≡ before - 5 → before ≤ at → (first ≤ at) × ((first ≡ 0) ⊎ (first + 5 ≤ at))
 either first before at is more =
     ⊎_elim (λ (few : before < 5). (omega (arith, is), inl (omega (arith, is)))) (λ (some : 5 ≤ before). (omega (arith, is), inr (omega (arith, is)))) (cases_lt before 5)

@@ -9,7 +9,7 @@ use Rattle.cesu8_decode.proofs.decoder.EventsRows.{kept_of_half}
 use Rattle.cesu8_decode.specs.declared.pass.events.replaced.TheConstants.{REPLACEMENTS}
 use Rattle.cesu8_decode.proofs.pass.events.replaced.store_replaced.Goals as goal
 
--- The lower four bits are one of sixteen sets.
+-- The lower four bits are one of sixteen row numbers.
 is_set : (bits : ℕ) → bit_and bits 0x0F < 0x10
 is_set bits = omega (arith, and_le_r bits 0x0F)
 
