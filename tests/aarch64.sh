@@ -38,7 +38,7 @@ look_at_files() {
     done < <(cd "$unpacked" && find . -type f -printf '%P\n' | grep -vE "$others")
     grep -rlF -e "$scratch/" -e "$top/" "$unpacked" && wrong 'these name a folder of this machine'
     grep -rlI '@[A-Z][A-Z]*@' "$unpacked" && wrong 'these are not filled in'
-    grep -nIE 'cesu8_cli|bin/cesu8_damage' "$unpacked"/{C,README,SECURITY}.md &&
+    grep -nIE 'cesu8_cli|cesu8conv' "$unpacked"/{C,README,SECURITY}.md &&
         wrong 'these are about the programs'
 }
 
