@@ -11,7 +11,7 @@
 # python/wheel.py.
 #
 # Where the tools are there that tests/cross.sh names, FOLDER gets the same for aarch64, without the
-# programs, since the kit has the parts in C of cesu8_cli for x86-64 alone.
+# programs, since the kit has the parts in C of programs for x86-64 alone.
 #
 # It needs the kit's `rt`, git, a C compiler `cc` with GNU ld 2.36 or later, ar, ld, nm, objcopy,
 # objdump, strip, GNU tar, gzip, bash, awk, grep, sed and the core utilities.
@@ -95,11 +95,15 @@ link_shared() {
     ln -s "libcesu8.so.$major" "$folder/libcesu8.so"
 }
 
-# The program that tells where a file is damaged, in C over the static library.
-build_damage() {
-    cc -std=c99 -O2 -Wall -Wextra -Werror -I "$release/include" -o "$release/bin/cesu8_damage" \
-        "$crate/examples/cesu8_damage.c" "$release/lib/libcesu8.a" \
-        -Wl,--gc-sections,-z,relro,-z,now,-z,noexecstack,-z,x86-64-v2
+# The program for files and streams, which the gate names if it has proved it: `build_conv`.
+build_conv() {
+    conv=${PROVED_CESU8CONV:-$top/crates/cesu8conv/out/cesu8conv}
+    [[ -z ${PROVED_CESU8CONV-} ]] || return 0
+    if ! (cd "$top/crates/cesu8conv" && rt run -- decode cesu8) </dev/null >"$scratch/build" 2>&1; then
+        cat "$scratch/build" >&2
+        echo 'cesu8conv was not built' >&2
+        exit 2
+    fi
 }
 
 # The man page of the calls, which the header's comments make, and for each call one that leads to it.
@@ -219,22 +223,25 @@ else
 fi
 mkdir -p "$release/bin" "$release/include" "$release/lib" "$release/examples"
 build
+build_conv
 cp "$program" "$release/bin/cesu8_cli"
+cp "$conv" "$release/bin/cesu8conv"
 sh "$crate/archive.sh" "$release/lib/libcesu8.a"
 strip -D --strip-unneeded "$release/lib/libcesu8.a"
 # The loader refuses it on a processor before x86-64-v2.
 link_shared "$release/lib" cc -Wl,-z,x86-64-v2
 cp "$crate/include/cesu8.h" "$release/include"
-build_damage
 strip -D --strip-unneeded "$release/bin"/* "$release/lib/libcesu8.so.$major"
 cp "$crate/examples/"*.c "$crate/examples/"*.rs "$crate/examples/"*.sh "$release/examples"
 fill cesu8.pc lib/pkgconfig/cesu8.pc
 fill cesu8-config.cmake lib/cmake/cesu8/cesu8-config.cmake
 fill cesu8-config-version.cmake lib/cmake/cesu8/cesu8-config-version.cmake
 fill cesu8_cli.1 share/man/man1/cesu8_cli.1
-fill cesu8_damage.1 share/man/man1/cesu8_damage.1
+fill cesu8conv.1 share/man/man1/cesu8conv.1
 write_call_pages
 fill cesu8_cli.bash share/bash-completion/completions/cesu8_cli
+"$release/bin/cesu8conv" --help | awk -f "$crate/package/cesu8conv.bash.awk" \
+    >"$release/share/bash-completion/completions/cesu8conv"
 fill install.sh install.sh
 fill uninstall.sh uninstall.sh
 fill README.md README.md

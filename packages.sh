@@ -166,5 +166,5 @@ echo 'activate-noawait ldconfig' >"$scratch/$library/DEBIAN/triggers"
 pack libcesu8 "$library" "$libdir/libcesu8.so.$major"
 pack libcesu8-dev libcesu8-dev
 if has_programs; then
-    pack cesu8-tools cesu8-tools usr/bin/cesu8_cli usr/bin/cesu8_damage
+    pack cesu8-tools cesu8-tools usr/bin/cesu8_cli usr/bin/cesu8conv
 fi

@@ -39,7 +39,7 @@ look_at_files() {
     done < <(cd "$unpacked" && find . -type f -printf '%P\n' | grep -vE "$others")
     grep -rlF -e "$scratch/" -e "$top/" "$unpacked" && wrong 'these name a folder of this machine'
     grep -rlI '@[A-Z][A-Z]*@' "$unpacked" && wrong 'these have unfilled placeholders'
-    grep -nIE 'cesu8_cli|bin/cesu8_damage' "$unpacked"/{C,README,SECURITY}.md &&
+    grep -nIE 'cesu8_cli|cesu8conv' "$unpacked"/{C,README,SECURITY}.md &&
         wrong 'these lines are about the programs'
 }
 

@@ -357,7 +357,7 @@ java_strings() {
     expect_bytes 'a text too long for a Java string' "$status" 1 '' 'cesu8: text is too long'
 }
 
-# Runs in parts of whole lines what PROGRAM.md shows for a dump that is larger than memory.
+# Runs in parts of whole lines, as the man page shows for a dump that is larger than memory.
 run_in_parts() {
     (cd "$scratch" && program="'$program'" && eval "$in_parts") 2>"$scratch/error"
     status=$?
@@ -368,8 +368,8 @@ run_in_parts() {
 # is longer than a part, and is cut within a pair: nothing of it is written.
 large_dump() {
     local in_parts pair='\xED\xA0\xBD\xED\xB2\x96'
-    in_parts=$(grep '^split -C ' "$top/docs/PROGRAM.md")
-    [[ $in_parts == *' dump >text' ]] || { wrong 'PROGRAM.md shows no run in parts'; return; }
+    # shellcheck disable=SC2016
+    in_parts='split -C 16M --filter="$program decode-strict cesu8" dump >text'
     repeated 1200000 "a$pair$pair\xC8\x85$pair\n" >"$scratch/dump"
     repeated 1200000 'a\xF0\x9F\x92\x96\xF0\x9F\x92\x96\xC8\x85\xF0\x9F\x92\x96\n' >"$scratch/wanted"
     run_in_parts

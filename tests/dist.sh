@@ -115,14 +115,15 @@ path_without_kit() {
 
 look_at_files() {
     local wanted=(BUILT-FROM C.md CHANGELOG.md LICENSE-APACHE LICENSE-MIT
-        LICENSE-simdutf8 PROGRAM.md README.md SECURITY.md bin/cesu8_cli bin/cesu8_damage
+        LICENSE-simdutf8 PROGRAM.md README.md SECURITY.md bin/cesu8_cli
+        bin/cesu8conv
         examples/cesu8_damage.c examples/class_constants.c examples/java_strings.sh
         examples/decode_pipe.c examples/java_units.c examples/keys.c examples/keys.rs
         include/cesu8.h install.sh
         lib/cmake/cesu8/cesu8-config-version.cmake lib/cmake/cesu8/cesu8-config.cmake
         lib/libcesu8.a lib/libcesu8.so "$shared" lib/pkgconfig/cesu8.pc
-        share/bash-completion/completions/cesu8_cli share/man/man1/cesu8_cli.1
-        share/man/man1/cesu8_damage.1 share/man/man3/cesu8.3 uninstall.sh)
+        share/bash-completion/completions/cesu8_cli share/bash-completion/completions/cesu8conv
+        share/man/man1/cesu8_cli.1 share/man/man1/cesu8conv.1 share/man/man3/cesu8.3 uninstall.sh)
     # The pages of single calls are looked at with the calls.
     (cd "$unpacked" && find . ! -type d ! -name 'cesu8_*.3' -printf '%P\n' | sort) >"$scratch/files"
     diff <(printf '%s\n' "${wanted[@]}") "$scratch/files" || wrong 'the release has other files'
@@ -341,7 +342,12 @@ shown_c
 shown_in_page
 shown_in_program_page
 in_class_file
-in_damaged_file "$unpacked/bin/cesu8_damage"
+if cc -std=c99 -O2 -Wall -Wextra -Werror -I "$unpacked/include" -o "$scratch/cesu8_damage" \
+    "$unpacked/examples/cesu8_damage.c" "$unpacked/lib/libcesu8.a"; then
+    in_damaged_file "$scratch/cesu8_damage"
+else
+    wrong 'cesu8_damage.c does not build'
+fi
 in_java_file
 in_java_units
 in_decode_pipe

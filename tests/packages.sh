@@ -98,8 +98,8 @@ wanted_files() {
             for file in "$unpacked"/share/man/man3/*; do echo "usr/share/man/man3/${file##*/}.gz"; done
             ;;
         cesu8-tools)
-            printf '%s\n' usr/{bin/,share/man/man1/}cesu8_{cli,damage} \
-                usr/share/bash-completion/completions/cesu8_cli "$doc/PROGRAM.md" |
+            printf '%s\n' usr/{bin/,share/man/man1/}cesu8{_cli,conv} \
+                usr/share/bash-completion/completions/cesu8{_cli,conv} "$doc/PROGRAM.md" |
                 sed '/man1/s/$/.1.gz/'
             ;;
         *) echo "$shared" ;;
@@ -249,8 +249,8 @@ use_packages() {
         by_cmake 'keys.c by CMake' "-DCMAKE_PREFIX_PATH=$root/usr"
     fi
     run_program "$root/usr"
-    [[ $(printf 'a\377' | "$root/usr/bin/cesu8_damage" cesu8 | cut -f 1) == 1 ]] ||
-        wrong 'cesu8_damage finds other damage'
+    [[ $(printf 'a\377' | "$root/usr/bin/cesu8conv" check cesu8 | cut -f 1) == 1 ]] ||
+        wrong 'cesu8conv finds other damage'
     if can_build 'the man pages' man --version; then
         man -M "$root/usr/share/man" 3 cesu8_mutf8_encode 2>&1 | grep -q 'cesu8_mutf8_encode(' ||
             wrong 'man finds no page of a call'

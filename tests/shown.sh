@@ -54,7 +54,6 @@ shown_in_page() {
 shown_in_program_page() {
     local folder=$scratch/shown/program
     mkdir "$folder" || exit 2
-    printf '\355\240\275\355\262\226\n\0\n' >"$folder/dump"
     # shellcheck disable=SC2016
     sed -n '/^```sh$/,/^```$/{/^```/d;p;}' "$unpacked/PROGRAM.md" >"$folder/script"
     diff <(grep '^program=' "$folder/script" | tr -s ' ') \
@@ -63,7 +62,6 @@ shown_in_program_page() {
     (cd "$folder" && PATH=$unpacked/bin:$PATH bash ./script) 2>&1 | sed 's/^ //' >"$folder/printed"
     sed -nE '/^(printf|tail|\)) /s/.*  # //p' "$folder/script" | sed 's/, and /\n/' |
         diff - "$folder/printed" || wrong 'PROGRAM.md shows something else'
-    printf '\360\237\222\226\n\0\n' | cmp - "$folder/text" || wrong 'PROGRAM.md makes another text of a dump'
     echo 'what PROGRAM.md shows was run'
 }
 
@@ -104,7 +102,7 @@ look_at_call_pages() {
 look_at_words() {
     local page=$unpacked/share/man/man1/cesu8_cli.1 words
     # shellcheck disable=SC2016
-    sed -n 's/^| `\([a-z-]*\)` |.*/\1/p' "$unpacked/PROGRAM.md" | sort >"$scratch/commands"
+    sed -n '/^## `cesu8_cli`/,$s/^| `\([a-z-]*\)` |.*/\1/p' "$unpacked/PROGRAM.md" | sort >"$scratch/commands"
     (($(wc -l <"$scratch/commands") >= 8)) || wrong 'PROGRAM.md has few commands'
     diff "$scratch/commands" <(sed -n '/^\.SH COMMANDS/,/^\.SH EXIT/s/^\.B \([a-z].*\)/\1/p' "$page" |
         sed 's/\\-/-/g' | grep -vx yes | sort) || wrong 'the man page has other commands'
@@ -119,20 +117,31 @@ look_at_words() {
             wrong "the completion has other flavors for $words"
     done <"$scratch/commands"
     [[ -z $(complete_words 3 cesu8_cli encode cesu8 '') ]] || wrong 'the completion has a third word'
+    # shellcheck disable=SC2016
+    sed -n '/^## Convert a file/,/^## `cesu8_cli`/s/^| `\([a-z]*\)` |.*/\1/p' "$unpacked/PROGRAM.md" | sort \
+        >"$scratch/commands"
+    diff "$scratch/commands" <(complete_words 1 cesu8conv '' | sort) ||
+        wrong 'the completion of cesu8conv has other commands'
+    diff "$scratch/commands" <(sed -n '/^\.SH COMMANDS/,/^\.SH OPTIONS/s/^\.B \([a-z].*\)/\1/p' \
+        "$unpacked/share/man/man1/cesu8conv.1" | sort) || wrong 'the man page of cesu8conv has other commands'
+    [[ $(complete_words 2 cesu8conv decode '' | xargs) == 'cesu8 mutf8' ]] ||
+        wrong 'the completion of cesu8conv has other encodings'
+    [[ $(complete_words 3 cesu8conv decode cesu8 --f) == --fail-on-damage ]] ||
+        wrong 'the completion of cesu8conv lacks an option'
     if can_build 'the man pages of the programs' man --version; then
-        for words in cesu8_cli cesu8_damage; do
+        for words in cesu8_cli cesu8conv; do
             reads_page "man1/$words.1"
             shown_lines "$scratch/shown_page"
         done
     fi
 }
 
-# What bash offers for a word: `complete_words PLACE WORD..`.
+# What bash offers for a word: `complete_words PLACE PROGRAM WORD..`.
 complete_words() {
     bash -c '
-        source "$1" && COMP_CWORD=$2 && COMP_WORDS=("${@:3}") && _cesu8_cli &&
+        source "$1" && COMP_CWORD=$2 && COMP_WORDS=("${@:3}") && "_$3" &&
             printf "%s\n" "${COMPREPLY[@]}"
-    ' - "$unpacked/share/bash-completion/completions/cesu8_cli" "$@"
+    ' - "$unpacked/share/bash-completion/completions/$2" "$@"
 }
 
 # The flavors that the program takes for a command.

@@ -1,4 +1,4 @@
-// Tells which bytes of a file are in no encoded character, as the program cesu8_damage of the release:
+// Tells which bytes of a file are in no encoded character, as `cesu8conv check` does:
 //   cesu8_damage cesu8|mutf8 [FILE]
 // Without FILE it reads standard input. It prints a line for each stretch of such bytes, with four
 // columns and tabs between: the offset of the first, counted from 0; the number of its line, counted

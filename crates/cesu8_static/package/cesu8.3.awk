@@ -35,7 +35,7 @@ END {
     printf ".SH TYPES\n.nf\n%s.fi\n", types
     printf ".SH CALLS\n%s", groups
     printf ".SH LENGTHS\n%s.PP\n.nf\n%s.fi\n", lengths, sizes
-    print ".SH SEE ALSO\n.BR cesu8_cli (1),\n.BR cesu8_damage (1)"
+    print ".SH SEE ALSO\n.BR cesu8_cli (1),\n.BR cesu8conv (1)"
 }
 
 # Adds the calls that were read, and what was said of them. What is said of no call is left out.

@@ -1,0 +1,4 @@
+pub mod Joined
+pub mod Steps
+pub mod Pieces
+pub mod Streams

@@ -1,0 +1,15 @@
+use Rattle.std.proofs.Common.{List, ℕ, ◌≡◌, ◌≤◌, ◌++◌, false, length, take}
+use Rattle.std.specs.Io.KnownBytes.{Appends, Consumes}
+use Rattle.cesu8conv.specs.Conversion.{Converts}
+use Rattle.cesu8conv.proofs.convert.convert.Given as goal
+
+abbrev pub invariant-loop : goal.invariant-loop
+invariant-loop g l = record {
+  unread_fits : l.unread ≤ length l.window;
+  taken : List ℕ;
+  output : List ℕ;
+  counted : length taken ≡ l.offset;
+  consumed : Consumes (g.R.Read.remaining l.initial.input) (g.R.Read.remaining l.input) (taken ++ take l.unread l.window);
+  converts : Converts l.conversion false taken (take l.unread l.window) output;
+  appended : Appends (g.W.Write.contents l.initial.output) (g.W.Write.contents l.output) output;
+}

@@ -1,0 +1,16 @@
+//! Why a conversion stops.
+
+use std::io;
+
+/// Why a conversion did not reach the end of its input.
+#[derive(Drop)]
+pub enum Fault {
+    /// No character of the input begins at this offset. So many bytes from there on were read.
+    Damage(u64, usize),
+    /// A read failed.
+    Read(io::Error),
+    /// A write failed, or accepted no byte.
+    Write(io::Error),
+    /// A buffer is too short, or the input has 2^64 bytes or more.
+    Size,
+}

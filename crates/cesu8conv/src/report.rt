@@ -1,0 +1,129 @@
+//! What a message says of damage: the bytes, why they are damage, and which command or encoding they
+//! belong to.
+
+use crate::conversion::{Conversion, FlavorWord};
+use simdutf8::compat;
+
+/// What a message says of the bytes at a damaged place.
+#[derive(Clone, Copy)]
+pub struct Reason {
+    /// How many bytes the message shows.
+    pub shown: usize,
+    /// What is wrong with them.
+    pub text: &'static str,
+}
+
+/// Why the bytes, of which one at least is there, are damage to a conversion.
+pub fn reason_of(conversion: Conversion, bytes: &[u8]) -> Reason {
+    match conversion {
+        Conversion::Encode(_) => utf8_reason(bytes),
+        Conversion::Decode(flavor) | Conversion::Lossy(flavor) => decode_reason(flavor, bytes),
+        Conversion::Mixed(flavor) | Conversion::MixedLossy(flavor) => mixed_reason(flavor, bytes),
+    }
+}
+
+/// Why bytes are not UTF-8.
+fn utf8_reason(bytes: &[u8]) -> Reason {
+    if is_surrogate(bytes) {
+        return Reason {
+            shown: 3,
+            text: "a surrogate, not UTF-8; is this CESU-8? Then use decode",
+        };
+    }
+    if let [0xC0, 0x80, ..] = bytes {
+        return Reason {
+            shown: 2,
+            text: "not UTF-8; it is U+0000 in MUTF-8: use decode mutf8",
+        };
+    }
+    if is_cut(bytes) {
+        return cut(bytes);
+    }
+    Reason {
+        shown: 1,
+        text: "not UTF-8",
+    }
+}
+
+/// Why bytes are not the encoding, with a word on UTF-8.
+fn decode_reason(flavor: FlavorWord, bytes: &[u8]) -> Reason {
+    if is_four(bytes) {
+        return Reason {
+            shown: 4,
+            text: match flavor {
+                FlavorWord::Cesu8 => "not CESU-8, but UTF-8: use mixed",
+                FlavorWord::Mutf8 => "not MUTF-8, but UTF-8: use mixed",
+            },
+        };
+    }
+    if let (FlavorWord::Mutf8, Some(0)) = (flavor, bytes.first()) {
+        return Reason {
+            shown: 1,
+            text: "not MUTF-8, which has C0 80 for U+0000: use mixed",
+        };
+    }
+    mixed_reason(flavor, bytes)
+}
+
+/// Why bytes are neither the encoding nor UTF-8.
+fn mixed_reason(flavor: FlavorWord, bytes: &[u8]) -> Reason {
+    if let (FlavorWord::Cesu8, [0xC0, 0x80, ..]) = (flavor, bytes) {
+        return Reason {
+            shown: 2,
+            text: "not CESU-8; it is U+0000 in MUTF-8: use mutf8",
+        };
+    }
+    if is_surrogate(bytes) {
+        return Reason {
+            shown: 3,
+            text: "an unpaired surrogate",
+        };
+    }
+    if is_cut(bytes) {
+        return cut(bytes);
+    }
+    Reason {
+        shown: 1,
+        text: match flavor {
+            FlavorWord::Cesu8 => "not CESU-8",
+            FlavorWord::Mutf8 => "not MUTF-8",
+        },
+    }
+}
+
+/// The reason for bytes at the end of the input that are a beginning of a character.
+fn cut(bytes: &[u8]) -> Reason {
+    Reason {
+        shown: bytes.len(),
+        text: "the input ends within a character",
+    }
+}
+
+/// Whether the bytes begin with a surrogate in three bytes.
+fn is_surrogate(bytes: &[u8]) -> bool {
+    match bytes {
+        [0xED, 0xA0..=0xBF, 0x80..=0xBF, ..] => true,
+        _ => false,
+    }
+}
+
+/// Whether the bytes begin with a character of UTF-8 with four bytes.
+fn is_four(bytes: &[u8]) -> bool {
+    match bytes {
+        [0xF0..=0xF4, _, _, _, ..] => compat::from_utf8(&bytes[..4]).is_ok(),
+        _ => false,
+    }
+}
+
+/// Whether these few bytes are a beginning of a character, or of half of a pair, and no more.
+fn is_cut(bytes: &[u8]) -> bool {
+    match bytes {
+        [_, _, _, _, ..] => false,
+        // UTF-8 has no surrogates, but the encodings do.
+        [0xED, 0xA0..=0xBF] => true,
+        _ => match compat::from_utf8(bytes) {
+            Ok(_) => false,
+            Err(error) => error.valid_up_to() == 0 && error.error_len().is_none(),
+        },
+    }
+}
