@@ -7,7 +7,8 @@
 # - the tests of all crates that differ or stand above run, without proof;
 # - the edits of files that differ are tried, but .ci/shows.sh is left to the gate. All of these crates can
 #   be applied;
-# - where the program is among what is proved, it is linked, and cli.sh and requests.sh run.
+# - a program that is among what is proved is linked, and its scripts run: cli.sh and requests.sh, or
+#   cesu8conv.sh.
 #
 # What it has proved of crates of which this clone had nothing, as `uses` or tests, it leaves in their `out`
 # folders, for the next look.
@@ -258,6 +259,17 @@ run_or_end() {
     ((failed == 0)) || end
 }
 
+# Links a program if it was proved, and runs its scripts, which find it by a variable: `run_with CRATE
+# VARIABLE SCRIPT..`.
+run_with() {
+    local crate=$1 variable=$2
+    shift 2
+    is_needed "$crate" || return 0
+    run_or_end "$crate: link" run_in "scripts/crates/$crate" link_program
+    export "$variable=$scratch/scripts/crates/$crate/out/$crate"
+    run_scripts "$@"
+}
+
 # What a push wants before the gate: `run_quick REV`.
 run_quick() {
     local crate
@@ -274,11 +286,8 @@ run_quick() {
     for crate in "${differing[@]}"; do run_or_end "$crate: proof" prove_crate "$crate"; done
     ((${#above[@]} == 0)) || run_or_end 'proofs above' run_in scripts rt all check --jobs "$processors"
     keep_proofs
-    if is_needed cesu8_cli; then
-        run_or_end 'cesu8_cli: link' run_in scripts/crates/cesu8_cli link_program
-        export PROVED_PROGRAM=$scratch/scripts/crates/cesu8_cli/out/cesu8_cli
-        run_scripts cli requests
-    fi
+    run_with cesu8_cli PROVED_PROGRAM cli requests
+    run_with cesu8conv PROVED_CESU8CONV cesu8conv
     count_edits "${differing[@]}"
     count_tests
     echo 'this is no verdict: .ci/run is'
