@@ -16,7 +16,7 @@ use crate::pass::events::{STORED_AFTER, write_events};
 use crate::way::FEW_BYTES;
 use cesu8_bytes::flavor::Flavor;
 use cesu8_bytes::lanes::class::{Equal, LANES, bits};
-use cesu8_bytes::strictness::{Reading, Strictness};
+use cesu8_bytes::strictness::{LossyReading, Reading, StrictReading, Strictness};
 use std::simd::prelude::*;
 
 /// The length of an array for the bytes, and for the zeros after them that are loaded too.
@@ -37,12 +37,16 @@ pub fn write_few<F: Flavor, S: Reading>(
 {
     let mut source = [0; SOURCE];
     load(bytes, &mut source);
-    let window = match S::strictness() {
-        _ if front.changed != 0 => changed_window::<F>(&source, front.changed, bytes.len()),
-        Strictness::Strict => return S::unless_refused(true, 0),
-        Strictness::Lossy => window_of_few::<F>(bytes),
-    };
-    let end = write_events::<F, S>(&source, 0, window, out, 0);
+    if front.changed != 0 {
+        let window = changed_window::<F>(&source, front.changed, bytes.len());
+        let end = write_events::<F, StrictReading>(&source, 0, window, out, 0);
+        return S::unless_refused(false, end);
+    }
+    if let Strictness::Strict = S::strictness() {
+        return S::unless_refused(true, 0);
+    }
+    let window = window_of_few::<F>(bytes);
+    let end = write_events::<F, LossyReading>(&source, 0, window, out, 0);
     S::unless_refused(false, end)
 }
 
