@@ -117,8 +117,8 @@ look_at_files() {
     local wanted=(BUILT-FROM C.md CHANGELOG.md LICENSE-APACHE LICENSE-MIT
         LICENSE-simdutf8 PROGRAM.md README.md SECURITY.md bin/cesu8_cli
         bin/cesu8conv
-        examples/cesu8_damage.c examples/class_constants.c examples/java_strings.sh
-        examples/decode_pipe.c examples/java_units.c examples/keys.c examples/keys.rs
+        examples/cesu8_damage.c examples/class_constants.c examples/decode_pipe.c
+        examples/java_strings.sh examples/java_units.c examples/keys.c examples/keys.rs
         include/cesu8.h install.sh
         lib/cmake/cesu8/cesu8-config-version.cmake lib/cmake/cesu8/cesu8-config.cmake
         lib/libcesu8.a lib/libcesu8.so "$shared" lib/pkgconfig/cesu8.pc

@@ -118,7 +118,7 @@ look_at_files() {
         dpkg-deb --contents "$(file_of "$name")" |
             awk -v time="$(date -u -d "@$seconds" '+%F %R')" '
                 { mode = $1 == "drwxr-xr-x" || $1 == "-rw-r--r--" || $1 == "lrwxrwxrwx" }
-                $6 ~ /^\.\/usr\/bin\/cesu8_|\/examples\/.*\.sh$/ { mode = $1 == "-rwxr-xr-x" }
+                $6 ~ /^\.\/usr\/bin\/cesu8|\/examples\/.*\.sh$/ { mode = $1 == "-rwxr-xr-x" }
                 !mode || $2 != "root/root" || $4 " " $5 != time { print; found = 1 }
                 END { exit found }' || wrong "$name has another owner, mode or time"
         gzip -dc "$scratch/$name/usr/share/doc/$name/changelog.Debian.gz" |
