@@ -100,7 +100,7 @@ function beginning(text) {
 
 # Whether a message begins as the kit tells of a goal that is not proved.
 function tells_goal(text) {
-    return beginning(text) ~ /it is not proved that|`[a-z]+`:? (the goal|(found )?no proof|stopped)|the two (types|sides)|: expected type/
+    return beginning(text) ~ /it is not proved that|`[a-z]+`:? (the goal|(found )?no proof|stopped)/ || tells_types(text)
 }
 
 # Whether a message tells that the search for a proof met a limit, and has no values that break the goal.
@@ -110,9 +110,10 @@ function tells_limit(text) {
     return text ~ /at one of its limits|Not every way was tried|was found\. It stopped|may (hold|not break the goal)/
 }
 
-# Whether a message tells of a proof by hand with another type than its goal.
+# Whether a message says that a proof by hand does not fit its goal: its type differs, or the goal has nothing
+# that it could rewrite.
 function tells_types(text) {
-    return beginning(text) ~ /the two (types|sides)|: expected type/
+    return beginning(text) ~ /the two (types|sides)|: expected type|`rw`: no occurrence/
 }
 
 # Whether a message tells that code, a spec or an edited file can't be read. One of a goal begins with the
