@@ -87,6 +87,15 @@ module _ (f : Flavor) (which : Strictness) (bytes : List ℕ) where
     len = writes.len;
   }
 
+  -- A pass goes on by a window of the bytes themselves.
+  pub window_goes_on : (before pass : Pass) (old mid new : List ℕ) (n end : ℕ) (is_refused : Bool) → GoesOn f which bytes before pass old mid →
+      pass.is_refused ≡ false → pass.read + n ≤ length bytes → is_boundary_at f (window_of bytes) (pass.read + n) ≡ true →
+      WritesDecoded f which (window_of bytes) pass.read n pass.end mid new end is_refused → end ≤ length new →
+      GoesOn f which bytes before (record { read = pass.read + n; end = end; is_refused = is_refused }) old new
+  window_goes_on before pass old mid new n end is_refused so_far fine inside boundary writes room =
+      goes_further before pass _ old mid new so_far fine
+      (goes_on_by pass _ (window_of bytes) mid new pass.read n refl inside (λ _. record { within = inside; boundary = boundary }) (λ k small. refl) writes room)
+
   -- A pass that starts with an empty buffer writes the text of the bytes that it reads.
   pub reads_on : (before after : Pass) (old new start text : List ℕ) (is_refused : Bool) → GoesOn f which bytes before after old new → before.end ≡ 0 →
       after.is_refused ≡ is_refused → IsDecoded f which (window_of bytes) 0 before.read start text false →
