@@ -37,7 +37,7 @@ step-more concat c is_last bytes sent room new tail at filled read written fits 
       ← append_assoc sent (take filled room) (take written tail),
     ) both
 
--- If no bytes are behind an offset, it is the length.
+-- If no bytes follow an offset, it is the length.
 pub all-before : (bytes : List ℕ) (n : ℕ) → n ≤ length bytes → drop n bytes ≡ [] → n ≡ length bytes
 all-before bytes n within none = let e : length (drop n bytes) ≡ 0 = ap length none in omega (arith, length-drop n bytes, e)
 
@@ -83,7 +83,7 @@ step-takes-all bytes at read within none =
     let rest : take (length bytes - at) (drop at bytes) ≡ drop at bytes = take_rest bytes at in
     all-before bytes (at + read) within (rw (← drop-drop read at bytes, ← rest) none)
 
--- Damage behind a step is damage behind what was taken.
+-- Damage after a step is damage after what was taken.
 pub step-damage : (c : Conversion) (is_last : Bool) (bytes : List ℕ) (at read : ℕ) →
     IsDamagedAhead c is_last (drop read (take (length bytes - at) (drop at bytes))) →
     IsDamagedAhead c is_last (drop (at + read) bytes)

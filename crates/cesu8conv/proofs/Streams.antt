@@ -20,7 +20,7 @@ whole-after whole written rest n e =
     e ∙ ap (λ bs. written ++ bs) (sym (ap (λ bs. take n rest ++ bs) (take_rest rest n) ∙ take-append-drop n rest))
     ∙ sym (append_assoc written (take n rest) (take (length rest - n) (drop n rest)))
 
--- What is behind k bytes behind an offset of a buffer.
+-- What follows k bytes after an offset of a buffer.
 abbrev pub left-over : (k at : ℕ) → List ℕ → List ℕ
 left-over k at room = drop k (drop at room)
 

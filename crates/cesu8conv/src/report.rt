@@ -36,13 +36,7 @@ fn utf8_reason(bytes: &[u8]) -> Reason {
             text: "not UTF-8; it is U+0000 in MUTF-8: use decode mutf8",
         };
     }
-    if is_cut(bytes) {
-        return cut(bytes);
-    }
-    Reason {
-        shown: 1,
-        text: "not UTF-8",
-    }
+    cut_or(bytes, "not UTF-8")
 }
 
 /// Why bytes are not the encoding, with a word on UTF-8.
@@ -79,24 +73,25 @@ fn mixed_reason(flavor: FlavorWord, bytes: &[u8]) -> Reason {
             text: "an unpaired surrogate",
         };
     }
-    if is_cut(bytes) {
-        return cut(bytes);
-    }
-    Reason {
-        shown: 1,
-        text: match flavor {
+    cut_or(
+        bytes,
+        match flavor {
             FlavorWord::Cesu8 => "not CESU-8",
             FlavorWord::Mutf8 => "not MUTF-8",
         },
-    }
+    )
 }
 
-/// The reason for bytes at the end of the input that are a beginning of a character.
-fn cut(bytes: &[u8]) -> Reason {
-    Reason {
-        shown: bytes.len(),
-        text: "the input ends within a character",
+/// The reason for bytes at the end of the input that are a beginning of a character, or this text
+/// for the first byte.
+fn cut_or(bytes: &[u8], text: &'static str) -> Reason {
+    if is_cut(bytes) {
+        return Reason {
+            shown: bytes.len(),
+            text: "the input ends within a character",
+        };
     }
+    Reason { shown: 1, text }
 }
 
 /// Whether the bytes begin with a surrogate in three bytes.
