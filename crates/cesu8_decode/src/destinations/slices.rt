@@ -20,10 +20,9 @@ use crate::front::few::front_of_few;
 use crate::front::{FoundFront, may_be_crossed};
 use crate::lanes::character_set::Unchanged;
 use crate::lengths::lossy_len;
-use crate::pass::few::write_few;
+use crate::pass::few::{FEW_LOSSY, FEW_STRICT, write_few};
 use crate::pass::windows::{
-    FEW_LOSSY, FEW_STRICT, LARGE_LOSSY, LARGE_STRICT, LARGEST_LOSSY, SMALL_LOSSY, SMALL_STRICT,
-    write_all,
+    LARGE_LOSSY, LARGE_STRICT, LARGEST_LOSSY, SMALL_LOSSY, SMALL_STRICT, write_all,
 };
 use crate::refusal::Unwritten;
 use crate::valid::is_ill_formed;

@@ -9,6 +9,7 @@ ghost use Rattle.cesu8_decode.specs.Decoding.{WritesReading, room_for_few};
 ghost use Rattle.cesu8_decode.specs.Front.{AreChanges, IsPartialFront};
 ghost use Rattle.cesu8_decode.specs.Masks.{IsWindow};
 
+use super::window::WIDEST;
 use crate::front::FoundFront;
 use crate::lanes::padded::load;
 use crate::lanes::windows::{Window, window_of_few};
@@ -18,6 +19,11 @@ use cesu8_bytes::flavor::Flavor;
 use cesu8_bytes::lanes::class::{Equal, LANES, bits};
 use cesu8_bytes::strictness::{LossyReading, Reading, StrictReading, Strictness};
 use std::simd::prelude::*;
+
+// The lengths of buffers for the longest text, and for what is stored after it.
+pub const FEW_STRICT: usize = FEW_BYTES + STORED_AFTER;
+
+pub const FEW_LOSSY: usize = WIDEST * FEW_BYTES + STORED_AFTER;
 
 /// The length of an array for the bytes, and for the zeros after them that are loaded too.
 const SOURCE: usize = FEW_BYTES + LANES;

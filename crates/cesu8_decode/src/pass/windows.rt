@@ -12,8 +12,7 @@ use super::window::{READ_AFTER, ROOM, WIDEST, write_window};
 use crate::front::front_of_many;
 use crate::lanes::character_set::Unchanged;
 use crate::lanes::windows::STEP;
-use crate::pass::events::STORED_AFTER;
-use crate::way::{FEW_BYTES, LARGE_ARRAY, LARGEST_ARRAY, SMALL_ARRAY, are_few};
+use crate::way::{LARGE_ARRAY, LARGEST_ARRAY, SMALL_ARRAY, are_few};
 use cesu8_bytes::flavor::Flavor;
 use cesu8_bytes::lanes::class::LANES;
 use cesu8_bytes::lanes::short::copy_short;
@@ -22,14 +21,10 @@ use cesu8_bytes::strictness::Reading;
 use cesu8_bytes::writing::put::put;
 
 // The lengths of buffers: for the longest text of so many bytes (`way`), and `ROOM` more, without
-// which the pass stops. The text of one window (`FEW`) needs only `STORED_AFTER` more.
+// which the pass stops.
 pub const SMALL_STRICT: usize = SMALL_ARRAY + ROOM;
 
 pub const LARGE_STRICT: usize = LARGE_ARRAY + ROOM;
-
-pub const FEW_STRICT: usize = FEW_BYTES + STORED_AFTER;
-
-pub const FEW_LOSSY: usize = WIDEST * FEW_BYTES + STORED_AFTER;
 
 pub const SMALL_LOSSY: usize = WIDEST * SMALL_ARRAY + ROOM;
 
