@@ -14,7 +14,7 @@
 # wrong. It needs what tests/release.sh needs.
 # shellcheck source=tests/lib.sh
 source "$(dirname "${BASH_SOURCE[0]}")/lib.sh" || exit 2
-crate=$top/crates/cesu8_static
+crate=$top/crates/cesu8_c
 # shellcheck source=tests/release.sh
 source "$top/tests/release.sh" || exit 2
 # shellcheck source=tests/c_library.sh

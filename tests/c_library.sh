@@ -17,7 +17,7 @@ mapped() {
     awk '
         /^CESU8_[0-9.]+ \{$/ { node = $1 }
         /^    cesu8_[a-z0-9_]+;$/ { print substr($1, 1, length($1) - 1) "@@" node }
-    ' "$crate/package/cesu8.map"
+    ' "$top/release/package/cesu8.map"
 }
 
 # Tests that functions begin at multiples of 32 bytes and tables at multiples of 16, from the

@@ -1,4 +1,4 @@
-// Calls each name of crates/cesu8_static/chooser.c with stubs in place of the code for both levels.
+// Calls each name of crates/cesu8_c/chooser.c with stubs in place of the code for both levels.
 // The script compiles the chooser so that it asks `made_up_supports` what the processor has. Each
 // name has to go to the code for x86-64-v3 where the processor has that level, and else to that for
 // x86-64-v2. Each argument has to arrive as it was, but for a null pointer. It prints what is wrong,

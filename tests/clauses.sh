@@ -87,7 +87,7 @@ everything() {
     for file in crates/cesu8_cli/src/*.rt; do
         [[ $file == */main.rt ]] || items cesu8_cli '' "${file##*/}"
     done
-    public_items cesu8_static '' lib.rt
+    public_items cesu8_c '' lib.rt
 }
 
 # The items of functions whose names begin with BEGIN, with the rest of the name:
@@ -134,8 +134,8 @@ sources() {
         those simd_cesu8 "implementation::$kernel::" >"$scratch/kernel"
         same "the kernels simd and $kernel" "$scratch/simd" "$scratch/kernel"
     done
-    those cesu8_static mutf8:: | of_cesu8 | sort >"$scratch/exports_mutf8"
-    those cesu8_static '' | of_encodings "$scratch/exports_mutf8" >"$scratch/exports"
+    those cesu8_c mutf8:: | of_cesu8 | sort >"$scratch/exports_mutf8"
+    those cesu8_c '' | of_encodings "$scratch/exports_mutf8" >"$scratch/exports"
     same 'the exports of the two encodings' "$scratch/exports" "$scratch/exports_mutf8"
     awk -F '\t' -v OFS='\t' '
         $3 != "!item" {
@@ -153,7 +153,7 @@ rules() {
     told '!requires' | none 'a public function requires something of its caller'
     told '!none' | none 'public, and without a contract'
     told '!unread' | none 'tests/contracts.awk cannot read'
-    grep -rl --include='*.rt' '^#\[unsafe(no_mangle)\]' crates/cesu8_static/src |
+    grep -rl --include='*.rt' '^#\[unsafe(no_mangle)\]' crates/cesu8_c/src |
         grep -v '/\(lib\|mutf8\|java\)\.rt$' | none 'an export in a module that is not public'
 }
 
@@ -172,7 +172,7 @@ texts() {
     awk -F '\t' '$3 !~ /^!(fn|item)$/ { print $4 }' "$scratch/items" >"$scratch/cited"
     mapfile -t files < <(sort -u "$scratch/files")
     awk -f tests/definitions.awk "$scratch/cited" "${files[@]}" \
-        crates/{cesu8_text,cesu8_bytes,simd_cesu8,java_text,cesu8_stream,cesu8_cli,cesu8_static}/specs/*.antt |
+        crates/{cesu8_text,cesu8_bytes,simd_cesu8,java_text,cesu8_stream,cesu8_cli,cesu8_c}/specs/*.antt |
         sed 's,^crates/\([a-z0-9_]*\)/\([^\t]*\)\t,\1 \2: ,'
 }
 

@@ -25,7 +25,7 @@ unset "${!GIT_@}"
 source "$(dirname "${BASH_SOURCE[0]}")/lib.sh" || exit 2
 # shellcheck source=tests/kit.sh
 source "$top/tests/kit.sh" || exit 2
-crate=$top/crates/cesu8_static
+crate=$top/crates/cesu8_c
 kit=$(dirname "$(dirname "$(readlink -f "$(command -v rt)")")")
 identity=$(rt version) || exit 2
 
@@ -58,7 +58,7 @@ copy_tree() {
         mkdir "$1/crates/$library/out" || exit 2
         cp -R "$top/crates/$library/out/rlib" "$1/crates/$library/out" || exit 2
     done
-    cp -R "$crate/out" "$1/crates/cesu8_static" || exit 2
+    cp -R "$crate/out" "$1/crates/cesu8_c" || exit 2
     (cd "$1" && git init -q . && git add . && git -c user.name=test -c user.email=test@example.org \
         -c commit.gpgsign=false -c core.hooksPath=/dev/null commit -q -m 'Release') || exit 2
 }
@@ -80,9 +80,9 @@ build_twice() {
     export PROVED_PROGRAM=$program
     copy_tree "$scratch/tree"
     commit=$(git -C "$scratch/tree" rev-parse HEAD) || exit 2
-    quietly bash "$scratch/tree/dist.sh" "$scratch/first" || exit 1
+    quietly bash "$scratch/tree/release/dist.sh" "$scratch/first" || exit 1
     mv "$scratch/tree" "$scratch/a_tree_of_another_name" || exit 2
-    quietly bash "$scratch/a_tree_of_another_name/dist.sh" "$scratch/second" || exit 1
+    quietly bash "$scratch/a_tree_of_another_name/release/dist.sh" "$scratch/second" || exit 1
     if ! diff -r "$scratch/first" "$scratch/second"; then
         wrong 'two builds differ'
         name_differences
@@ -96,10 +96,10 @@ build_twice() {
 # What dist.sh says of how it is called.
 look_at_usage() {
     local word
-    [[ $(bash "$scratch/a_tree_of_another_name/dist.sh" --help) == 'usage: dist.sh FOLDER' ]] ||
+    [[ $(bash "$scratch/a_tree_of_another_name/release/dist.sh" --help) == 'usage: dist.sh FOLDER' ]] ||
         wrong 'dist.sh does not say how it is called'
     for word in '' -x --version; do
-        [[ $(bash "$scratch/a_tree_of_another_name/dist.sh" "$word" 2>&1; echo $?) == \
+        [[ $(bash "$scratch/a_tree_of_another_name/release/dist.sh" "$word" 2>&1; echo $?) == \
             'usage: dist.sh FOLDER'$'\n2' ]] || wrong "dist.sh takes: $word"
     done
 }
@@ -148,7 +148,7 @@ look_at_pages() {
         grep -qx "$file" "$scratch/files" || wrong "a page names $file, which is not there"
     done < <(cd "$unpacked" && grep -ohE '`[^` ]*`' ./*.md | tr -d '`' |
         grep -E '^(bin|examples|include|lib|share)/|\.(md|sh)$' |
-        grep -vxE 'dist.sh|vendor.sh|lib/x86_64-linux-gnu' | sort -u)
+        grep -vxE '(release/)?(dist|vendor)\.sh|lib/x86_64-linux-gnu' | sort -u)
     for page in "$top"/*.md "$top"/docs/*.md; do
         page=${page##*/}
         [[ -f $unpacked/$page ]] || ! grep -rnIw "${page%.md}" "$unpacked" ||

@@ -1,4 +1,4 @@
-// Calls each export of crates/cesu8_static as C does. What comes back it compares with the
+// Calls each export of crates/cesu8_c as C does. What comes back it compares with the
 // encodings as the standards give them (UTF-8 by the Unicode Standard, CESU-8 by Unicode Technical
 // Report 26, MUTF-8 by Java's DataInput). The input and the buffer stand once before and once behind
 // a page that no call may touch. A buffer has each length from 0 to one more than is needed, and for

@@ -1,5 +1,5 @@
 #!/usr/bin/env bash
-# Tests the library for C, crates/cesu8_static, in these steps:
+# Tests the library for C, crates/cesu8_c, in these steps:
 # 1. It compares the names of the exports with those of the header, the chooser, the version map, the
 #    rows of tests/exports.c and tests/digest.c.
 # 2. It compiles tests/header.c, which uses all that the header declares, in each standard of C and of
@@ -20,7 +20,7 @@
 source "$(dirname "${BASH_SOURCE[0]}")/lib.sh" || exit 2
 # shellcheck source=tests/kit.sh
 source "$top/tests/kit.sh" || exit 2
-crate=$top/crates/cesu8_static
+crate=$top/crates/cesu8_c
 header=$crate/include/cesu8.h
 # shellcheck source=tests/c_library.sh
 source "$top/tests/c_library.sh" || exit 2

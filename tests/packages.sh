@@ -16,7 +16,7 @@
 # shellcheck source=tests/lib.sh
 source "$(dirname "${BASH_SOURCE[0]}")/lib.sh" || exit 2
 umask 022
-crate=$top/crates/cesu8_static
+crate=$top/crates/cesu8_c
 # shellcheck source=tests/release.sh
 source "$top/tests/release.sh" || exit 2
 # shellcheck source=tests/callers.sh
@@ -153,7 +153,7 @@ look_at_library() {
         /^ +cesu8_[a-z0-9_]+;$/ {
             gsub(/[ ;]/, "")
             print " " $0 "@" node, substr(node, 7) ".0"
-        }' "$crate/package/cesu8.map" | sort |
+        }' "$top/release/package/cesu8.map" | sort |
         diff <(printf '%s\n' "libcesu8.so.$major $library" '* Build-Depends-Package: libcesu8-dev' &&
             cat) "$control/symbols" || wrong 'the symbols differ from the version map'
     dynamic=$(readelf --dynamic --wide "$scratch/$library/$shared")
@@ -172,7 +172,7 @@ build_again() {
     (
         umask 077
         DEBFULLNAME=${maintainer% <*} DEBEMAIL=${maintainer##*<} SOURCE_DATE_EPOCH=$seconds \
-            quietly bash "$top/packages.sh" "$scratch/moved" "$again"
+            quietly bash "$top/release/packages.sh" "$scratch/moved" "$again"
     ) || wrong 'packages.sh fails'
     for name in "${names[@]}"; do
         cmp "$(file_of "$name")" "$again/${name}_${debian}_amd64.deb" ||

@@ -24,7 +24,7 @@ find_release() {
         # shellcheck source=tests/kit.sh
         source "$top/tests/kit.sh"
         release=$scratch/release
-        quietly bash "$top/dist.sh" "$release" || exit 1
+        quietly bash "$top/release/dist.sh" "$release" || exit 1
     fi
     mkdir "$scratch/unpacked" && tar xzf "$release/$name.tar.gz" -C "$scratch/unpacked" || exit 2
     unpacked=$scratch/unpacked/$name

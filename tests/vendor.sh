@@ -1,4 +1,6 @@
-#!/usr/bin/env bash
+mkdir -p "$scratch/own/crates" "$scratch/own/release" || exit 2
+cp "$top/release/vendor.sh" "$scratch/own/release" || exit 2
+cp "$top"/{crates.txt,VERSION,LICENSE-APACHE,LICENSE-MIT} "$scratch/own" || exit 2#!/usr/bin/env bash
 # Makes a new repository with a copy of the libraries by vendor.sh and two crates, one with a proof that
 # cites a clause and a law, and proves and runs them. It checks that the copy has what it needs and no
 # more, and of that no tests, that git takes nothing that `rt` made, and that a second copy changes
@@ -109,7 +111,7 @@ copied_files() {
 
 # Copies the libraries, after which crates.txt has these lines: `copy LINES`.
 copy() {
-    "$top/vendor.sh" "$new" >>"$new/crates.txt" || wrong 'vendor.sh fails'
+    "$top/release/vendor.sh" "$new" >>"$new/crates.txt" || wrong 'vendor.sh fails'
     [[ $(<"$new/crates.txt") == "$1" ]] || wrong "crates.txt has other lines than $1"
     diff <(wanted_files) <(copied_files) || wrong 'the copy has other files'
     compare_code
@@ -193,19 +195,19 @@ refuses() {
 mkdir -p "$scratch/flat" "$scratch/other/crates/simd_cesu8/src" || exit 2
 printf 'keys: simd_cesu8' >"$scratch/flat/crates.txt"
 # It is called by a link.
-ln -s "$top/vendor.sh" "$scratch/vendor" || exit 2
+ln -s "$top/release/vendor.sh" "$scratch/vendor" || exit 2
 "$scratch/vendor" "$scratch/flat" >>"$scratch/flat/crates.txt" ||
     wrong 'vendor.sh fails beside crates.txt'
 [[ $(head -n 2 "$scratch/flat/crates.txt") == $'keys: simd_cesu8\ncesu8_text:' ]] ||
     wrong 'a line of crates.txt without an end is lengthened'
 [[ -f $scratch/flat/java_text/src/lib.rt ]] || wrong 'the copy does not stand beside crates.txt'
-refuses 'a library that it did not copy' "$top/vendor.sh" "$scratch/other"
+refuses 'a library that it did not copy' "$top/release/vendor.sh" "$scratch/other"
 
 # A copy that is a link: what it leads to may belong to others.
 mkdir -p "$scratch/linked/crates" || exit 2
 ln -s "$scratch/flat/simd_cesu8" "$scratch/linked/crates/simd_cesu8" || exit 2
 echo 'own' >"$scratch/flat/simd_cesu8/src/own.rt"
-refuses 'a link to a copy' "$top/vendor.sh" "$scratch/linked"
+refuses 'a link to a copy' "$top/release/vendor.sh" "$scratch/linked"
 [[ -f $scratch/flat/simd_cesu8/src/own.rt ]] || wrong 'vendor.sh writes through a link'
 
 # Its own repository, by its name and by a link: here one whose libraries are copies themselves.
@@ -213,8 +215,8 @@ mkdir -p "$scratch/own/crates" || exit 2
 cp "$top"/{vendor.sh,crates.txt,VERSION,LICENSE-APACHE,LICENSE-MIT} "$scratch/own" || exit 2
 cp -R "${libraries[@]/#/$scratch/flat/}" "$scratch/own/crates" || exit 2
 ln -s own "$scratch/link" || exit 2
-refuses 'its own repository' "$scratch/own/vendor.sh" "$scratch/own"
-refuses 'a link to its own repository' "$scratch/own/vendor.sh" "$scratch/link"
+refuses 'its own repository' "$scratch/own/release/vendor.sh" "$scratch/own"
+refuses 'a link to its own repository' "$scratch/own/release/vendor.sh" "$scratch/link"
 
 ((failed == 0)) || exit 1
 echo 'a new repository with a copy of the libraries is proved'

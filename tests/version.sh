@@ -2,7 +2,7 @@
 # Compares the file VERSION with every place that names the version: the macros of the header for C,
 # the nodes of the version map, the first heading of CHANGELOG.md with a version, and on the pages
 # the names of archives and of the shared object, and the version that CMake is asked for. The files
-# of crates/cesu8_static/package get the version from dist.sh, so they name none, and the man page,
+# of release/package get the version from dist.sh, so they name none, and the man page,
 # the archive's README and the files for pkg-config and CMake have a placeholder for it. It prints
 # each difference. The status is 0 if there is none. It needs bash, grep, sed and the core
 # utilities.
@@ -11,8 +11,8 @@ unset CDPATH
 export LC_ALL=C
 
 cd "$(dirname "${BASH_SOURCE[0]}")/.." || exit 2
-header=crates/cesu8_static/include/cesu8.h
-package=crates/cesu8_static/package
+header=crates/cesu8_c/include/cesu8.h
+package=release/package
 wrong=0
 
 # Compares a value that a file has with the one that it should have:
@@ -86,7 +86,7 @@ for file in rust/README.md rust/simd_cesu8/Cargo.toml; do
         expect "$file" package "$version" "$named"
     done < <(grep -o 'cesu8_rattle-[0-9.]*[0-9]' "$file" | sed 's/^cesu8_rattle-//' | sort -u)
 done
-for control in crates/cesu8_static/package/debian/*.control; do
+for control in release/package/debian/*.control; do
     expect "$control" version '@VERSION@-1' "$(sed -n 's/^Version: //p' "$control")"
     while read -r named; do
         expect "$control" 'name of the library' 'libcesu8-@MAJOR@' "$named"

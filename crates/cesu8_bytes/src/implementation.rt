@@ -5,7 +5,7 @@ pub mod simd;
 pub mod word;
 
 /// The fastest kernels. The modules have the same contracts, so any of them would be correct.
-/// `looks` calls none of them: the search of `lanes` is faster, because it ends with one
+/// `fast_paths` calls none of them: the search of `lanes` is faster, because it ends with one
 /// overlapping vector.
 pub mod active {
     pub use super::simd::{

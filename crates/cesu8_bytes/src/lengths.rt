@@ -5,10 +5,10 @@ ghost use Rattle.std.specs.Str.{chars};
 ghost use Rattle.cesu8_text.specs.Encoding.{encoding};
 ghost use Rattle.cesu8_text.specs.Utf16.{units};
 
+use crate::fast_paths::needs_encoded;
 use crate::flavor::Flavor;
 use crate::lanes::class::OneUnit;
 use crate::lanes::count::weight;
-use crate::looks::needs_encoded;
 
 /// Returns the length of a string's encoding, in bytes. Each four-byte character becomes six bytes,
 /// and in MUTF-8 each U+0000 becomes two.

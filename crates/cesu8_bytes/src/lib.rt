@@ -3,7 +3,7 @@
 //! - `flavor`, `strictness`: the encoding, and whether ill-formed bytes are errors or are replaced
 //! - `lanes`: vectors of bytes, classes of bytes, and searches and counts by vectors
 //! - `implementation`: the search kernels, by vectors, by words and by single bytes
-//! - `looks`: fast paths that a call inlines
+//! - `fast_paths`: fast paths that a call inlines
 //! - `lengths`, `order`: the length and the order of encodings, without encoding
 //! - `pairs`: surrogate pairs
 //! - `writing`: copying, packing and appending bytes
@@ -12,11 +12,11 @@
 //! This crate is internal and may change at any time. `simd_cesu8` has the public calls.
 #![tactic(auto)]
 
+pub mod fast_paths;
 pub mod flavor;
 pub mod implementation;
 pub mod lanes;
 pub mod lengths;
-pub mod looks;
 pub mod order;
 pub mod pairs;
 pub mod strictness;

@@ -1,9 +1,9 @@
 //! Writing bytes:
 //!
-//! - `put`: to an offset of a slice
+//! - `offsets`: to an offset of a slice
 //! - `copies`: to the end of a vector, to a caller's slice, or to a new vector
 //! - `packing`: the lanes of a vector, without those that are dropped
 
 pub mod copies;
+pub mod offsets;
 pub mod packing;
-pub mod put;

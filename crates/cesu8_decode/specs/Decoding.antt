@@ -5,9 +5,9 @@ use Rattle.cesu8_text.specs.Reading.{HasNoStrictReading, lossy_length}
 use Rattle.cesu8_text.specs.Encoding.{Flavor}
 use Rattle.cesu8_bytes.specs.declared.strictness.Strictness.{Strictness}
 use Rattle.cesu8_bytes.specs.declared.strictness.Strictness.TheVariants.{Strict, Lossy}
-use Rattle.cesu8_decode.specs.declared.way.TheConstants.{FEW_BYTES, SMALL_ARRAY, LARGE_ARRAY, LARGEST_ARRAY}
-use Rattle.cesu8_decode.specs.declared.way.Way.{Way}
-use Rattle.cesu8_decode.specs.declared.way.Way.TheVariants.{Few, SmallArray, LargeArray, LargestArray, Chunks}
+use Rattle.cesu8_decode.specs.declared.strategy.TheConstants.{FEW_BYTES, SMALL_ARRAY, LARGE_ARRAY, LARGEST_ARRAY}
+use Rattle.cesu8_decode.specs.declared.strategy.Strategy.{Strategy}
+use Rattle.cesu8_decode.specs.declared.strategy.Strategy.TheVariants.{Few, SmallArray, LargeArray, LargestArray, Chunks}
 use Rattle.cesu8_decode.specs.declared.pass.window.TheConstants.{WIDEST, ROOM}
 use Rattle.cesu8_decode.specs.declared.pass.events.TheConstants.{STORED_AFTER}
 use Rattle.cesu8_decode.specs.declared.pass.windows.Pass.{Pass}
@@ -16,7 +16,7 @@ use Rattle.cesu8_bytes.specs.TextChunks.{IsReadSoFar}
 
 -- The strategy fits the bytes: they are at most as many as its limit, and for chunks more than
 -- every other limit.
-abbrev pub Takes : Way → List ℕ → Type 0
+abbrev pub Takes : Strategy → List ℕ → Type 0
 Takes Few bytes = length bytes ≤ FEW_BYTES
 Takes SmallArray bytes = length bytes ≤ SMALL_ARRAY
 Takes LargeArray bytes = length bytes ≤ LARGE_ARRAY

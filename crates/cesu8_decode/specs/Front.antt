@@ -7,7 +7,7 @@ use Rattle.cesu8_decode.specs.DecodedOffsets.{is_ill_formed_at, window_of}
 use Rattle.cesu8_decode.specs.Following.{CharacterSet, Encoded, Unchanged}
 use Rattle.cesu8_decode.specs.Masks.{Marks, is_pair_at, is_null_at}
 use Rattle.cesu8_decode.specs.declared.front.few.FoundFront.{FoundFront}
-use Rattle.cesu8_decode.specs.declared.way.TheConstants.{FEW_BYTES}
+use Rattle.cesu8_decode.specs.declared.strategy.TheConstants.{FEW_BYTES}
 
 -- The scalar values whose encoding is not in the set.
 abbrev pub IsOutside : CharacterSet → Flavor → ℕ → Type 0

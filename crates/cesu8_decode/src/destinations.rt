@@ -2,12 +2,12 @@
 //! the other two:
 //!
 //! - `chunks`: many bytes, chunk by chunk, to a `Vec` or a slice
-//! - `fronts`: strict decoding to a `Vec`, of at most 64 bytes, or from one converted character to
+//! - `strict_append`: strict decoding to a `Vec`, of at most 64 bytes, or from one converted character to
 //!   the next
 //! - `strings`: to a `Vec`, which becomes a `String`
 //! - `slices`: to a caller's slice
 
 mod chunks;
-mod fronts;
 pub mod slices;
+mod strict_append;
 pub mod strings;

@@ -15,7 +15,7 @@ pub mod few;
 
 use crate::lanes::character_set::{CharacterSet, DECIDING, Unchanged};
 use crate::lanes::following::{block_behind, following_len, two_follow};
-use crate::way::{FEW_BYTES, are_few};
+use crate::strategy::{FEW_BYTES, are_few};
 use cesu8_bytes::BLOCK;
 use cesu8_bytes::flavor::Flavor;
 use cesu8_bytes::lanes::class::{Either, NonAscii};

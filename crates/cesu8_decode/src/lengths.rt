@@ -8,9 +8,9 @@ ghost use Rattle.cesu8_text.specs.Slices.{ReadsAtLength};
 
 mod counts;
 
-use crate::changed::begins_changed;
 use crate::front::front;
 use crate::lanes::masks::STEP;
+use crate::needs_conversion::begins_changed;
 use crate::valid::is_ill_formed;
 use cesu8_bytes::flavor::Flavor;
 use cesu8_bytes::lanes::class::LANES;

@@ -8,18 +8,18 @@
 //!
 //! The modules, in the order in which a call uses them:
 //!
-//! - `accepts`: the modes, lenient and encoding alone
+//! - `modes`: the modes, lenient and encoding alone
 //! - `lanes`: vector code for 32 or 64 bytes, with no branch on a single byte
 //! - `front`: the length of the prefix of whole characters that are unchanged in UTF-8; decoding
 //!   begins with this test
 //! - `valid`: the length of the prefix of whole encoded characters
 //! - `utf8`: whether bytes are UTF-8, which lenient calls test after the unchanged prefix
 //! - `lengths`: the length of the decoded text
-//! - `way`: which strategy decodes input that needs conversion
-//! - `changed`: whether bytes begin with a character that needs conversion
+//! - `strategy`: which strategy decodes input that needs conversion
+//! - `needs_conversion`: whether bytes begin with a character that needs conversion
 //! - `pass`: the decoding loop: one window for at most 64 bytes, successive windows for more
 //! - `destinations`: decoding to a `String` and to a caller's slice
-//! - `copy_or_write`: decoding to a caller's slice that copies unchanged input
+//! - `to_slice`: decoding to a caller's slice that copies unchanged input
 //!
 //! `refusal` has the errors.
 #![tactic(auto)]
@@ -31,18 +31,18 @@ ghost use Rattle.cesu8_text.specs.Reading.{IsStrictReading, HasNoStrictReading, 
 ghost use Rattle.cesu8_decode.specs.Front.{IsPartialFront};
 ghost use Rattle.cesu8_decode.specs.Refusals.{OnNoText};
 
-pub mod accepts;
-mod changed;
-pub mod copy_or_write;
 mod destinations;
 pub mod front;
 mod lanes;
 mod lengths;
+pub mod modes;
+mod needs_conversion;
 mod pass;
 pub mod refusal;
+mod strategy;
+pub mod to_slice;
 mod utf8;
 pub mod valid;
-mod way;
 
 use crate::front::FoundFront;
 use crate::refusal::Refusal;

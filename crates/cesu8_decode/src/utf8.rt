@@ -10,7 +10,7 @@ ghost use Rattle.simdutf8.specs.Tracks.{HasRead};
 ghost use Rattle.cesu8_text.specs.Patterns.{IsContinuation};
 
 use crate::lanes::padded::padded;
-use crate::way::is_one_block;
+use crate::strategy::is_one_block;
 use cesu8_bytes::lanes::class::{LANES, NonAscii};
 use cesu8_bytes::lanes::search::any_in_bytes;
 use simdutf8::Checker;

@@ -11,10 +11,10 @@ ghost use Rattle.cesu8_text.specs.Reading.{IsStrictReading, HasNoStrictReading, 
 use crate::front::front_of_many;
 use crate::lanes::character_set::Encoded;
 use crate::lanes::windows::window_of_few;
-use crate::way::are_few;
+use crate::strategy::are_few;
+use cesu8_bytes::fast_paths::is_short_unchanged_ascii;
 use cesu8_bytes::flavor::Flavor;
 use cesu8_bytes::lanes::class::LANES;
-use cesu8_bytes::looks::is_short_unchanged_ascii;
 
 /// Returns the length of the valid prefix.
 #[inline(always)]

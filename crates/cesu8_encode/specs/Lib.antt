@@ -1,3 +1,3 @@
 pub mod EncodedOffsets
 pub mod Encoded
-pub mod Ways
+pub mod Strategies

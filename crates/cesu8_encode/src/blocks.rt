@@ -20,7 +20,7 @@ use cesu8_bytes::BLOCK;
 use cesu8_bytes::flavor::{Flavor, nulls};
 use cesu8_bytes::lanes::class::{AtLeastF0, Either, bits, mask};
 use cesu8_bytes::lanes::short::any_in_ends;
-use cesu8_bytes::writing::put::put;
+use cesu8_bytes::writing::offsets::put;
 use std::simd::prelude::*;
 
 /// The bytes before a block that are read with it, since they decide what its bytes become.

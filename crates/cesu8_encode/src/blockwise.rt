@@ -11,8 +11,8 @@ ghost use Rattle.cesu8_encode.specs.Encoded.{WritesEncoding};
 ghost use Rattle.cesu8_encode.specs.EncodedOffsets.{recoded, IsWritten, Writes};
 
 use super::blocks::{BLOCK_READ, READ_AFTER, READ_BEFORE, write_block};
-use super::middle::{AnyChange, BlockWriter, CopyUnchanged, NullChange};
-use super::way::{Middle, is_block, middle_of};
+use super::middle_blocks::{AnyChange, BlockWriter, CopyUnchanged, NullChange};
+use super::strategy::{Middle, is_block, middle_of};
 use cesu8_bytes::BLOCK;
 use cesu8_bytes::flavor::Flavor;
 use cesu8_bytes::lanes::short::copy_short;

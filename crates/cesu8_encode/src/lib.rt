@@ -19,10 +19,10 @@
 //! - `blocks`: encodes one block
 //! - `rows`: the shuffles
 //! - `blockwise`: the loop over the blocks of a string
-//! - `middle`: what that loop does with a block inside the string
-//! - `way`: which strategy is used for which string
+//! - `middle_blocks`: what that loop does with a block inside the string
+//! - `strategy`: which strategy is used for which string
 //!
-//! This file builds or appends an encoding, and `copy_or_write` writes it to a caller's buffer. The
+//! This file builds or appends an encoding, and `to_slice` writes it to a caller's buffer. The
 //! crate is internal and may change at any time. `simd_cesu8` has the public calls.
 #![tactic(auto)]
 
@@ -34,14 +34,14 @@ ghost use Rattle.cesu8_encode.specs.Encoded.{BuildsEncoding, AppendsEncoding};
 
 mod blocks;
 mod blockwise;
-pub mod copy_or_write;
-mod middle;
+mod middle_blocks;
 mod rows;
-mod way;
+mod strategy;
+pub mod to_slice;
 
 use self::blocks::BLOCK_ENCODED;
 use self::blockwise::write;
-use self::way::{ON_STACK, is_block, is_for_stack};
+use self::strategy::{ON_STACK, is_block, is_for_stack};
 use cesu8_bytes::flavor::Flavor;
 use cesu8_bytes::lengths::encoded_len;
 use cesu8_bytes::writing::copies::{append, append_zeros, copy};

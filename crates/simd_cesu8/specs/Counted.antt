@@ -2,7 +2,7 @@
 use Rattle.std.specs.Prelude.{ℕ, List}
 use Rattle.std.specs.Str.{chars}
 use Rattle.simd_cesu8.specs.Encoding.{encoding}
-use Rattle.simd_cesu8.specs.Internal.{flavor_of}
+use Rattle.simd_cesu8.specs.Codec.{flavor_of}
 use Rattle.simd_cesu8.specs.declared.counted_text.CountedText.{CountedText}
 
 -- The encoding of the string.

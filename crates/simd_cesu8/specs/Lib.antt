@@ -12,7 +12,7 @@ pub mod Cow
 pub mod Counted
 pub mod Fault
 pub mod Slices
-pub mod Internal
+pub mod Codec
 pub use Rattle.cesu8_bytes.specs.Pairs
 pub use Rattle.cesu8_bytes.specs.Packing
 pub use Rattle.cesu8_bytes.specs.TextChunks

@@ -3,10 +3,10 @@
 ghost use Rattle.std.specs.Prelude.{◌≡◌, length};
 ghost use Rattle.std.specs.Str.{chars};
 ghost use Rattle.simd_cesu8.specs.Encoding.{encoding};
-ghost use Rattle.simd_cesu8.specs.Internal.{flavor_of};
+ghost use Rattle.simd_cesu8.specs.Codec.{flavor_of};
 
-use crate::internal::value::Flavor;
-use crate::internal::{Cesu8Flavor, Mutf8Flavor, encode_into};
+use crate::codec::encoding::Flavor;
+use crate::codec::{Cesu8Flavor, Mutf8Flavor, encode_into};
 use std::alloc::{AllocError, Global};
 
 /// A string with the length of its encoding, for formats that write the length first. The length is
@@ -32,7 +32,7 @@ impl<'a> CountedText<'a> {
     ghost use Rattle.std.specs.Prelude.{◌≡◌, ◌≤◌, ◌+◌, ◌++◌, [], length, OnOk, OnErr, IsOk, vec_len, vec_capacity};
     ghost use Rattle.std.specs.Str.{chars};
     ghost use Rattle.simd_cesu8.specs.Encoding.{encoding};
-    ghost use Rattle.simd_cesu8.specs.Internal.{flavor_of};
+    ghost use Rattle.simd_cesu8.specs.Codec.{flavor_of};
     ghost use Rattle.simd_cesu8.specs.Counted.{counted_encoding};
 
     #[inline(always)]

@@ -1,6 +1,6 @@
 //! Results that borrow from the input if they can.
 
-use crate::internal;
+use crate::codec;
 use std::alloc::{AllocError, Global};
 
 /// Bytes that are borrowed from the input if none of them changes, and owned otherwise.
@@ -61,7 +61,7 @@ impl<'a> CowBytes<'a> {
             vec_capacity bytes ≡ length (answer_bytes self.entry)) }
     {
         match self {
-            CowBytes::Borrowed(bytes) => internal::copy(alloc, bytes),
+            CowBytes::Borrowed(bytes) => codec::copy(alloc, bytes),
             CowBytes::Owned(bytes) => Ok(bytes),
         }
     }
@@ -126,7 +126,7 @@ impl<'a> CowText<'a> {
             string_capacity text ≡ length (answer_text self.entry)) }
     {
         match self {
-            CowText::Borrowed(text) => internal::copy_text(alloc, text),
+            CowText::Borrowed(text) => codec::copy_text(alloc, text),
             CowText::Owned(text) => Ok(text),
         }
     }

@@ -11,9 +11,9 @@ ghost use Rattle.simd_cesu8.specs.Class.{IsUnchangedUtf8};
 ghost use Rattle.simd_cesu8.specs.Reading.{IsStrictReading};
 ghost use Rattle.simd_cesu8.specs.Slices.{StandsAtFront, WritesReading};
 
+use crate::codec;
+use crate::codec::{EncodingAlone, Flavor, begins_with_unchanged_ascii};
 use crate::error::DecodeSliceFault;
-use crate::internal;
-use crate::internal::{EncodingAlone, Flavor, begins_with_unchanged_ascii};
 use std::simd::prelude::*;
 
 /// The length of a vector, in bytes.
@@ -88,5 +88,5 @@ fn decode_by_call<F: Flavor>(bytes: &[u8], buf: &mut [u8]) -> Result<usize, Deco
 fn decode_called<F: Flavor>(bytes: &[u8], buf: &mut [u8]) -> Result<usize, DecodeSliceFault>
     ensures { WritesReading (IsStrictReading F.flavor bytes.now) result buf.old buf.new }
 {
-    internal::decode_to_slice::<F, EncodingAlone>(bytes, buf)
+    codec::decode_to_slice::<F, EncodingAlone>(bytes, buf)
 }

@@ -7,9 +7,9 @@ ghost use Rattle.simd_cesu8.specs.Encoding.{Mutf8};
 ghost use Rattle.simd_cesu8.specs.Reading.{IsStrictReading};
 ghost use Rattle.simd_cesu8.specs.Slices.{WritesReading};
 
+use crate::codec::{Cesu8Flavor, Mutf8Flavor, is_short_unchanged_ascii, is_utf8, known_text};
 use crate::error::DecodeSliceFault;
 use crate::front_to_slice;
-use crate::internal::{Cesu8Flavor, Mutf8Flavor, is_short_unchanged_ascii, is_utf8, known_text};
 pub use cesu8_bytes::implementation::{active, fallback, simd, word};
 
 /// Returns the bytes as a string if they are UTF-8. It tests them as the calls that decode do, and

@@ -59,22 +59,22 @@ ghost use Rattle.simd_cesu8.specs.Counted.{counted_encoding};
 ghost use Rattle.simd_cesu8.specs.Fault.{OnInvalid};
 ghost use Rattle.simd_cesu8.specs.Slices.{ReadsAtLength, WritesAnswer, WritesReading, WritesLossyReading};
 
-mod borrow_or_build;
+mod calls;
+mod codec;
 mod counted_text;
 mod cow;
 mod error;
 mod front_to_slice;
 pub mod implementation;
-mod internal;
 pub mod laws;
 pub mod mutf8;
 
-use crate::borrow_or_build::{decode_as, decode_lossy_as};
+use crate::calls::{decode_as, decode_lossy_as};
+use crate::codec::encoding::Flavor;
+use crate::codec::{Cesu8Flavor, EncodingAlone, Lenient, encoded_len_by_need};
 pub use crate::counted_text::CountedText;
 pub use crate::cow::{CowBytes, CowText};
 pub use crate::error::{DecodeFault, DecodeSliceFault, DecodingError, LossySliceFault, TooShort};
-use crate::internal::value::Flavor;
-use crate::internal::{Cesu8Flavor, EncodingAlone, Lenient, encoded_len_by_need};
 use std::alloc::{AllocError, Global};
 use std::cmp::Ordering;
 
@@ -89,7 +89,7 @@ use std::cmp::Ordering;
 pub fn needs_encoded(value: &str) -> bool
     ensures { IsTrue result ↔ NeedsEncoding Cesu8 (chars value.now) }
 {
-    internal::needs_encoded::<Cesu8Flavor>(value)
+    codec::needs_encoded::<Cesu8Flavor>(value)
 }
 
 /// Returns the length in bytes of a string's CESU-8 (Unicode Technical Report 26). The call
@@ -101,7 +101,7 @@ pub fn needs_encoded(value: &str) -> bool
 pub fn encoded_len(value: &str) -> usize
     ensures { result ≡ length (encoding Cesu8 (chars value.now)) }
 {
-    internal::encoded_len::<Cesu8Flavor>(value)
+    codec::encoded_len::<Cesu8Flavor>(value)
 }
 
 /// Returns the string with the length of its CESU-8 (Unicode Technical Report 26), for formats that
@@ -130,7 +130,7 @@ pub fn counted(value: &str) -> CountedText<'_>
 pub fn utf16_len(text: &str) -> usize
     ensures { result ≡ length (units (chars text.now)) }
 {
-    internal::utf16_len(text)
+    codec::utf16_len(text)
 }
 
 /// Compares two strings by their UTF-16 code units, as Java's `compareTo`, JavaScript and the
@@ -147,7 +147,7 @@ pub fn utf16_len(text: &str) -> usize
 pub fn compare_as_utf16(text: &str, other: &str) -> Ordering
     ensures { result ≡ slice_cmp nat_cmp (units (chars text.now)) (units (chars other.now)) }
 {
-    internal::compare_as_utf16(text, other)
+    codec::compare_as_utf16(text, other)
 }
 
 /// Encodes a string as CESU-8 (Unicode Technical Report 26).
@@ -170,7 +170,7 @@ pub fn encode(alloc: Global, value: &str) -> Result<CowBytes<'_>, AllocError>
     ensures succeeds { ¬ (NeedsEncoding Cesu8 (chars value.now)) → IsOk result }
     ensures capacity { BuildsBytesOfCapacity result (length (encoding Cesu8 (chars value.now))) }
 {
-    borrow_or_build::encode::<Cesu8Flavor>(alloc, value)
+    calls::encode::<Cesu8Flavor>(alloc, value)
 }
 
 /// Appends the CESU-8 (Unicode Technical Report 26) of a string to the buffer.
@@ -256,7 +256,7 @@ pub fn decode_strict_front(
     ensures succeeds { IsUnchangedUtf8 Cesu8 (take len bytes.now) → IsOk result }
     ensures capacity { BuildsTextOfCapacity result (length (take len bytes.now)) }
 {
-    borrow_or_build::decode_strict_front::<Cesu8Flavor>(alloc, bytes, len)
+    calls::decode_strict_front::<Cesu8Flavor>(alloc, bytes, len)
 }
 
 /// Decodes bytes that are UTF-8 as a whole, or else CESU-8 (Unicode Technical Report 26). It never
@@ -355,7 +355,7 @@ pub fn decoded_len(bytes: &[u8]) -> Option<usize>
         ReadsAtLength (IsStrictReading Cesu8 bytes.now) (λ text_len. len ≡ text_len)) }
     ensures none { IfNone result (HasNoStrictReading Cesu8 bytes.now) }
 {
-    internal::decoded_len::<Cesu8Flavor>(bytes)
+    codec::decoded_len::<Cesu8Flavor>(bytes)
 }
 
 /// Returns the length in bytes of the text that [`decode_lossy_strict`] returns for the same bytes,
@@ -374,7 +374,7 @@ pub fn lossy_len(bytes: &[u8]) -> Option<usize>
     ensures some { IfSome result (λ len. len ≡ lossy_length Cesu8 bytes.now) }
     ensures none { IfNone result (usize.MAX < lossy_length Cesu8 bytes.now) }
 {
-    internal::lossy_len::<Cesu8Flavor>(bytes)
+    codec::lossy_len::<Cesu8Flavor>(bytes)
 }
 
 /// Returns the length in bytes of the longest valid prefix: the bytes up to there are whole encoded
@@ -402,7 +402,7 @@ pub fn valid_up_to(bytes: &[u8]) -> usize
         → HasNoStrictReading Cesu8 (take n bytes.now) }
     ensures replaced { result < length bytes.now → mark Cesu8 bytes.now result ≡ 0xFFFD ∷ [] }
 {
-    internal::valid_up_to::<Cesu8Flavor>(bytes)
+    codec::valid_up_to::<Cesu8Flavor>(bytes)
 }
 
 /// Encodes a string as CESU-8 (Unicode Technical Report 26) to the caller's buffer.
@@ -423,7 +423,7 @@ pub fn valid_up_to(bytes: &[u8]) -> usize
 pub fn encode_to_slice(value: &str, buf: &mut [u8]) -> Result<usize, TooShort>
     ensures { WritesAnswer (encoding Cesu8 (chars value.now)) result buf.old buf.new }
 {
-    internal::encode_to_slice::<Cesu8Flavor>(value, buf)
+    codec::encode_to_slice::<Cesu8Flavor>(value, buf)
 }
 
 /// Decodes CESU-8 (Unicode Technical Report 26) strictly, and writes the text's UTF-8 to the
@@ -444,7 +444,7 @@ pub fn encode_to_slice(value: &str, buf: &mut [u8]) -> Result<usize, TooShort>
 pub fn decode_strict_to_slice(bytes: &[u8], buf: &mut [u8]) -> Result<usize, DecodeSliceFault>
     ensures { WritesReading (λ text. IsStrictReading Cesu8 bytes.now text) result buf.old buf.new }
 {
-    internal::decode_to_slice::<Cesu8Flavor, EncodingAlone>(bytes, buf)
+    codec::decode_to_slice::<Cesu8Flavor, EncodingAlone>(bytes, buf)
 }
 
 /// Decodes bytes that are UTF-8 as a whole, or else CESU-8 (Unicode Technical Report 26), and
@@ -465,7 +465,7 @@ pub fn decode_strict_to_slice(bytes: &[u8], buf: &mut [u8]) -> Result<usize, Dec
 pub fn decode_to_slice(bytes: &[u8], buf: &mut [u8]) -> Result<usize, DecodeSliceFault>
     ensures { WritesReading (λ text. IsLenientReading Cesu8 bytes.now text) result buf.old buf.new }
 {
-    internal::decode_to_slice::<Cesu8Flavor, Lenient>(bytes, buf)
+    codec::decode_to_slice::<Cesu8Flavor, Lenient>(bytes, buf)
 }
 
 /// Decodes CESU-8 (Unicode Technical Report 26) that may be damaged. It writes the UTF-8 of each
@@ -487,7 +487,7 @@ pub fn decode_lossy_strict_to_slice(bytes: &[u8], buf: &mut [u8]) -> Result<usiz
     ensures { WritesLossyReading (λ text. text ≡ reading Cesu8 bytes.now)
         result buf.old buf.new }
 {
-    internal::decode_lossy_to_slice::<Cesu8Flavor, EncodingAlone>(bytes, buf)
+    codec::decode_lossy_to_slice::<Cesu8Flavor, EncodingAlone>(bytes, buf)
 }
 
 /// Decodes bytes that are UTF-8 as a whole, or else CESU-8 (Unicode Technical Report 26) that may
@@ -510,5 +510,5 @@ pub fn decode_lossy_to_slice(bytes: &[u8], buf: &mut [u8]) -> Result<usize, Loss
     ensures { WritesLossyReading (λ text. IsLenientLossyReading Cesu8 bytes.now text)
         result buf.old buf.new }
 {
-    internal::decode_lossy_to_slice::<Cesu8Flavor, Lenient>(bytes, buf)
+    codec::decode_lossy_to_slice::<Cesu8Flavor, Lenient>(bytes, buf)
 }

@@ -21,12 +21,12 @@ ghost use Rattle.simd_cesu8.specs.Counted.{counted_encoding};
 ghost use Rattle.simd_cesu8.specs.Fault.{OnInvalid};
 ghost use Rattle.simd_cesu8.specs.Slices.{ReadsAtLength, WritesAnswer, WritesReading, WritesLossyReading};
 
-use crate::borrow_or_build::{decode_as, decode_lossy_as};
+use crate::calls::{decode_as, decode_lossy_as};
+use crate::codec::encoding::Flavor;
+use crate::codec::{EncodingAlone, Lenient, Mutf8Flavor, encoded_len_by_need};
 use crate::counted_text::CountedText;
 use crate::cow::{CowBytes, CowText};
 use crate::error::{DecodeFault, DecodeSliceFault, LossySliceFault, TooShort};
-use crate::internal::value::Flavor;
-use crate::internal::{EncodingAlone, Lenient, Mutf8Flavor, encoded_len_by_need};
 use crate::{borrow_or_build, internal};
 use std::alloc::{AllocError, Global};
 
@@ -41,7 +41,7 @@ use std::alloc::{AllocError, Global};
 pub fn needs_encoded(value: &str) -> bool
     ensures { IsTrue result ↔ NeedsEncoding Mutf8 (chars value.now) }
 {
-    internal::needs_encoded::<Mutf8Flavor>(value)
+    codec::needs_encoded::<Mutf8Flavor>(value)
 }
 
 /// Like [`crate::encoded_len`], for MUTF-8. The length does not count the two bytes that Java's
@@ -53,7 +53,7 @@ pub fn needs_encoded(value: &str) -> bool
 pub fn encoded_len(value: &str) -> usize
     ensures { result ≡ length (encoding Mutf8 (chars value.now)) }
 {
-    internal::encoded_len::<Mutf8Flavor>(value)
+    codec::encoded_len::<Mutf8Flavor>(value)
 }
 
 /// Like [`crate::counted`], for MUTF-8.
@@ -87,7 +87,7 @@ pub fn encode(alloc: Global, value: &str) -> Result<CowBytes<'_>, AllocError>
     ensures succeeds { ¬ (NeedsEncoding Mutf8 (chars value.now)) → IsOk result }
     ensures capacity { BuildsBytesOfCapacity result (length (encoding Mutf8 (chars value.now))) }
 {
-    borrow_or_build::encode::<Mutf8Flavor>(alloc, value)
+    calls::encode::<Mutf8Flavor>(alloc, value)
 }
 
 /// Like [`crate::encode_into`], for MUTF-8.
@@ -154,7 +154,7 @@ pub fn decode_strict_front(
     ensures succeeds { IsUnchangedUtf8 Mutf8 (take len bytes.now) → IsOk result }
     ensures capacity { BuildsTextOfCapacity result (length (take len bytes.now)) }
 {
-    borrow_or_build::decode_strict_front::<Mutf8Flavor>(alloc, bytes, len)
+    calls::decode_strict_front::<Mutf8Flavor>(alloc, bytes, len)
 }
 
 /// Like [`crate::decode`], for bytes that are UTF-8 as a whole, or else MUTF-8.
@@ -226,7 +226,7 @@ pub fn decoded_len(bytes: &[u8]) -> Option<usize>
         ReadsAtLength (IsStrictReading Mutf8 bytes.now) (λ text_len. len ≡ text_len)) }
     ensures none { IfNone result (HasNoStrictReading Mutf8 bytes.now) }
 {
-    internal::decoded_len::<Mutf8Flavor>(bytes)
+    codec::decoded_len::<Mutf8Flavor>(bytes)
 }
 
 /// Like [`crate::lossy_len`], for MUTF-8: the length in bytes of the text that
@@ -240,7 +240,7 @@ pub fn lossy_len(bytes: &[u8]) -> Option<usize>
     ensures some { IfSome result (λ len. len ≡ lossy_length Mutf8 bytes.now) }
     ensures none { IfNone result (usize.MAX < lossy_length Mutf8 bytes.now) }
 {
-    internal::lossy_len::<Mutf8Flavor>(bytes)
+    codec::lossy_len::<Mutf8Flavor>(bytes)
 }
 
 /// Like [`crate::valid_up_to`], for MUTF-8: the length in bytes of the longest valid prefix.
@@ -261,7 +261,7 @@ pub fn valid_up_to(bytes: &[u8]) -> usize
         → HasNoStrictReading Mutf8 (take n bytes.now) }
     ensures replaced { result < length bytes.now → mark Mutf8 bytes.now result ≡ 0xFFFD ∷ [] }
 {
-    internal::valid_up_to::<Mutf8Flavor>(bytes)
+    codec::valid_up_to::<Mutf8Flavor>(bytes)
 }
 
 /// Like [`crate::encode_to_slice`], for MUTF-8.
@@ -277,7 +277,7 @@ pub fn valid_up_to(bytes: &[u8]) -> usize
 pub fn encode_to_slice(value: &str, buf: &mut [u8]) -> Result<usize, TooShort>
     ensures { WritesAnswer (encoding Mutf8 (chars value.now)) result buf.old buf.new }
 {
-    internal::encode_to_slice::<Mutf8Flavor>(value, buf)
+    codec::encode_to_slice::<Mutf8Flavor>(value, buf)
 }
 
 /// Like [`crate::decode_strict_to_slice`], for MUTF-8. It returns `Invalid` for the same bytes as
@@ -292,7 +292,7 @@ pub fn encode_to_slice(value: &str, buf: &mut [u8]) -> Result<usize, TooShort>
 pub fn decode_strict_to_slice(bytes: &[u8], buf: &mut [u8]) -> Result<usize, DecodeSliceFault>
     ensures { WritesReading (λ text. IsStrictReading Mutf8 bytes.now text) result buf.old buf.new }
 {
-    internal::decode_to_slice::<Mutf8Flavor, EncodingAlone>(bytes, buf)
+    codec::decode_to_slice::<Mutf8Flavor, EncodingAlone>(bytes, buf)
 }
 
 /// Like [`crate::decode_to_slice`], for bytes that are UTF-8 as a whole, or else MUTF-8.
@@ -306,7 +306,7 @@ pub fn decode_strict_to_slice(bytes: &[u8], buf: &mut [u8]) -> Result<usize, Dec
 pub fn decode_to_slice(bytes: &[u8], buf: &mut [u8]) -> Result<usize, DecodeSliceFault>
     ensures { WritesReading (λ text. IsLenientReading Mutf8 bytes.now text) result buf.old buf.new }
 {
-    internal::decode_to_slice::<Mutf8Flavor, Lenient>(bytes, buf)
+    codec::decode_to_slice::<Mutf8Flavor, Lenient>(bytes, buf)
 }
 
 /// Like [`crate::decode_lossy_strict_to_slice`], for MUTF-8. It also replaces a raw byte 00 by
@@ -322,7 +322,7 @@ pub fn decode_lossy_strict_to_slice(bytes: &[u8], buf: &mut [u8]) -> Result<usiz
     ensures { WritesLossyReading (λ text. text ≡ reading Mutf8 bytes.now)
         result buf.old buf.new }
 {
-    internal::decode_lossy_to_slice::<Mutf8Flavor, EncodingAlone>(bytes, buf)
+    codec::decode_lossy_to_slice::<Mutf8Flavor, EncodingAlone>(bytes, buf)
 }
 
 /// Like [`crate::decode_lossy_to_slice`], for bytes that are UTF-8 as a whole, or else MUTF-8 that
@@ -338,5 +338,5 @@ pub fn decode_lossy_to_slice(bytes: &[u8], buf: &mut [u8]) -> Result<usize, Loss
     ensures { WritesLossyReading (λ text. IsLenientLossyReading Mutf8 bytes.now text)
         result buf.old buf.new }
 {
-    internal::decode_lossy_to_slice::<Mutf8Flavor, Lenient>(bytes, buf)
+    codec::decode_lossy_to_slice::<Mutf8Flavor, Lenient>(bytes, buf)
 }

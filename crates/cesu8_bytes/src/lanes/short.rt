@@ -8,7 +8,7 @@ ghost use Rattle.std.specs.Prelude.{◌≡◌, ◌≤◌, ◌+◌, ◌*◌, ◌-
 ghost use Rattle.cesu8_bytes.specs.Kernels.{AnyIn};
 
 use super::class::{InVectors, LANES, has};
-use crate::writing::put::put_lanes;
+use crate::writing::offsets::put_lanes;
 use std::simd::prelude::*;
 
 /// From 1,024 bytes on, `copy_short` and `append` copy the slice as a whole, in larger steps. If

@@ -8,7 +8,7 @@ use Rattle.cesu8_bytes.specs.Kernels.{mask}
 use Rattle.cesu8_bytes.proofs.vectors.Loads.{loaded}
 use Rattle.cesu8_decode.specs.DecodedOffsets.{byte_by}
 use Rattle.cesu8_decode.specs.Masks.{is_high_surrogate, changed_byte}
-use Rattle.cesu8_decode.specs.declared.pass.events.changed.TheConstants.{FIRST_BY_SECOND, SECOND_BY_SECOND, THIRD_BY_THIRD}
+use Rattle.cesu8_decode.specs.declared.pass.events.dense_pairs.TheConstants.{FIRST_BY_SECOND, SECOND_BY_SECOND, THIRD_BY_THIRD}
 use Rattle.cesu8_decode.proofs.decoder.FirstLanes.{on_range, lanes_are, lane_fits}
 
 -- ---- lanes that are selected

@@ -12,7 +12,7 @@ use crate::pass::windows::{LARGE_LOSSY, Pass, SMALL_STRICT, write_windows};
 use cesu8_bytes::flavor::Flavor;
 use cesu8_bytes::strictness::{LossyReading, Reading};
 use cesu8_bytes::writing::copies::{append, append_zeros};
-use cesu8_bytes::writing::put::put;
+use cesu8_bytes::writing::offsets::put;
 
 /// How many bytes of a vector are cleared at once and then overwritten, at least `ROOM`. A smaller
 /// number would take more calls of the pass. A larger one would be cleared in vain if strict

@@ -15,18 +15,18 @@ ghost use Rattle.cesu8_decode.specs.Front.{IsFront, IsPartialFront};
 ghost use Rattle.cesu8_decode.specs.PutReadings.{PutsReading};
 
 use super::chunks::put_chunks;
-use crate::changed::begins_changed;
 use crate::front::few::front_of_few;
 use crate::front::{FoundFront, may_be_crossed};
 use crate::lanes::character_set::Unchanged;
 use crate::lengths::lossy_len;
+use crate::needs_conversion::begins_changed;
 use crate::pass::few::{FEW_LOSSY, FEW_STRICT, write_few};
 use crate::pass::windows::{
     LARGE_LOSSY, LARGE_STRICT, LARGEST_LOSSY, SMALL_LOSSY, SMALL_STRICT, write_all,
 };
 use crate::refusal::Unwritten;
+use crate::strategy::{FEW_BYTES, Strategy, are_few, strategy_of};
 use crate::valid::is_ill_formed;
-use crate::way::{FEW_BYTES, Way, are_few, way_of};
 use cesu8_bytes::flavor::Flavor;
 use cesu8_bytes::lanes::short::copy_short;
 use cesu8_bytes::strictness::{LossyReading, Reading, StrictReading, Strictness};
@@ -88,12 +88,12 @@ pub fn put_lossily<F: Flavor>(
     requires { IsPartialFront F.flavor bytes.now front }
     ensures { PutsReading F.flavor Lossy bytes.now result buf.old buf.new }
 {
-    match way_of(bytes) {
-        Way::Few => put_few::<F, LossyReading, FEW_LOSSY>(bytes, front, buf),
-        Way::SmallArray => put_by_array::<F, LossyReading, SMALL_LOSSY>(bytes, buf),
-        Way::LargeArray => put_by_array::<F, LossyReading, LARGE_LOSSY>(bytes, buf),
-        Way::LargestArray => put_by_array::<F, LossyReading, LARGEST_LOSSY>(bytes, buf),
-        Way::Chunks => put_many::<F, LossyReading>(bytes, buf),
+    match strategy_of(bytes) {
+        Strategy::Few => put_few::<F, LossyReading, FEW_LOSSY>(bytes, front, buf),
+        Strategy::SmallArray => put_by_array::<F, LossyReading, SMALL_LOSSY>(bytes, buf),
+        Strategy::LargeArray => put_by_array::<F, LossyReading, LARGE_LOSSY>(bytes, buf),
+        Strategy::LargestArray => put_by_array::<F, LossyReading, LARGEST_LOSSY>(bytes, buf),
+        Strategy::Chunks => put_many::<F, LossyReading>(bytes, buf),
     }
 }
 
@@ -102,13 +102,13 @@ pub fn put_lossily<F: Flavor>(
 fn put_strictly_whole<F: Flavor>(bytes: &[u8], buf: &mut [u8]) -> Result<usize, Unwritten>
     ensures { PutsReading F.flavor Strict bytes.now result buf.old buf.new }
 {
-    match way_of(bytes) {
-        Way::Few => put_rest::<F>(bytes, buf),
+    match strategy_of(bytes) {
+        Strategy::Few => put_rest::<F>(bytes, buf),
         // Input that ends within a character is rejected before all of it is decoded.
         _ if may_be_crossed::<Unchanged>(bytes, bytes.len()) => Err(Unwritten::NoText),
-        Way::SmallArray => put_by_array::<F, StrictReading, SMALL_STRICT>(bytes, buf),
-        Way::LargeArray => put_by_array::<F, StrictReading, LARGE_STRICT>(bytes, buf),
-        Way::LargestArray | Way::Chunks => put_many::<F, StrictReading>(bytes, buf),
+        Strategy::SmallArray => put_by_array::<F, StrictReading, SMALL_STRICT>(bytes, buf),
+        Strategy::LargeArray => put_by_array::<F, StrictReading, LARGE_STRICT>(bytes, buf),
+        Strategy::LargestArray | Strategy::Chunks => put_many::<F, StrictReading>(bytes, buf),
     }
 }
 

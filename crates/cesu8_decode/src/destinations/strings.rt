@@ -13,13 +13,13 @@ ghost use Rattle.cesu8_decode.specs.Following.{Unchanged};
 ghost use Rattle.cesu8_decode.specs.Front.{IsFront, IsPartialFront};
 
 use super::chunks::append_chunks;
-use super::fronts::{append_few_strictly, append_many};
-use crate::changed::may_lead_changed;
+use super::strict_append::{append_few_strictly, append_many};
 use crate::front::FoundFront;
 use crate::lengths::lossy_len;
+use crate::needs_conversion::may_lead_changed;
 use crate::pass::few::{FEW_LOSSY, write_few};
 use crate::pass::windows::{LARGE_LOSSY, LARGEST_LOSSY, SMALL_LOSSY, write_all};
-use crate::way::{FEW_BYTES, LARGEST_ARRAY, Way, are_few, way_of};
+use crate::strategy::{FEW_BYTES, LARGEST_ARRAY, Strategy, are_few, strategy_of};
 use cesu8_bytes::BLOCK;
 use cesu8_bytes::flavor::Flavor;
 use cesu8_bytes::strictness::{LossyReading, NoText};
@@ -73,12 +73,12 @@ pub fn build_lossily<F: Flavor>(
     requires { IsPartialFront F.flavor bytes.now front }
     ensures { BuildsReading F.flavor bytes.now result }
 {
-    match way_of(bytes) {
-        Way::Few => build_few::<F>(alloc, bytes, front),
-        Way::SmallArray => build_by_array::<F, SMALL_LOSSY>(alloc, bytes),
-        Way::LargeArray => build_by_array::<F, LARGE_LOSSY>(alloc, bytes),
-        Way::LargestArray => build_by_array::<F, LARGEST_LOSSY>(alloc, bytes),
-        Way::Chunks => build_chunks::<F>(alloc, bytes),
+    match strategy_of(bytes) {
+        Strategy::Few => build_few::<F>(alloc, bytes, front),
+        Strategy::SmallArray => build_by_array::<F, SMALL_LOSSY>(alloc, bytes),
+        Strategy::LargeArray => build_by_array::<F, LARGE_LOSSY>(alloc, bytes),
+        Strategy::LargestArray => build_by_array::<F, LARGEST_LOSSY>(alloc, bytes),
+        Strategy::Chunks => build_chunks::<F>(alloc, bytes),
     }
 }
 

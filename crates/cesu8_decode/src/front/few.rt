@@ -7,7 +7,7 @@ ghost use Rattle.std.specs.Prelude.{◌≤◌, length};
 ghost use Rattle.cesu8_decode.specs.Front.{IsFrontOf};
 
 use crate::lanes::windows::window_of_few;
-use crate::way::FEW_BYTES;
+use crate::strategy::FEW_BYTES;
 use cesu8_bytes::flavor::Flavor;
 
 /// The unchanged prefix of some bytes.

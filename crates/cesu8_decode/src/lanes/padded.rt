@@ -2,11 +2,11 @@
 
 ghost use Rattle.std.specs.Prelude.{◌≡◌, ◌≤◌, ◌-◌, ◌++◌, length, replicate};
 
-use crate::way::is_one_block;
+use crate::strategy::is_one_block;
 use cesu8_bytes::BLOCK;
 use cesu8_bytes::lanes::class::LANES;
 use cesu8_bytes::lanes::padded::padded_half;
-use cesu8_bytes::writing::put::put_lanes;
+use cesu8_bytes::writing::offsets::put_lanes;
 use std::simd::prelude::*;
 
 /// Returns at most 64 bytes, padded with zeros.

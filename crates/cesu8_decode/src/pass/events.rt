@@ -12,8 +12,8 @@ ghost use Rattle.cesu8_decode.specs.DecodedOffsets.{decoded, window_of, is_bound
 ghost use Rattle.cesu8_decode.specs.Decoding.{most_written};
 ghost use Rattle.cesu8_decode.specs.Masks.{IsWindow, is_null_at, is_pair_at};
 
-mod changed;
-mod nulls;
+mod dense_nulls;
+mod dense_pairs;
 mod replaced;
 
 use crate::lanes::windows::Window;
@@ -21,9 +21,9 @@ use cesu8_bytes::flavor::Flavor;
 use cesu8_bytes::lanes::class::LANES;
 use cesu8_bytes::pairs::{PAIR, PAIR_READ, PAIR_UTF8, utf8_of_pair};
 use cesu8_bytes::strictness::{LossyReading, Reading, StrictReading, Strictness};
-use cesu8_bytes::writing::put::{put, put_lanes};
-use changed::put_changed;
-use nulls::write_nulls;
+use cesu8_bytes::writing::offsets::{put, put_lanes};
+use dense_nulls::write_nulls;
+use dense_pairs::put_changed;
 use replaced::{REPLACEMENT, write_replaced};
 use std::simd::prelude::*;
 

@@ -14,7 +14,7 @@ use crate::front::FoundFront;
 use crate::lanes::padded::load;
 use crate::lanes::windows::{Window, window_of_few};
 use crate::pass::events::{STORED_AFTER, write_events};
-use crate::way::FEW_BYTES;
+use crate::strategy::FEW_BYTES;
 use cesu8_bytes::flavor::Flavor;
 use cesu8_bytes::lanes::class::{Equal, LANES, bits};
 use cesu8_bytes::strictness::{LossyReading, Reading, StrictReading, Strictness};

@@ -12,15 +12,15 @@ use super::window::{READ_AFTER, ROOM, WIDEST, write_window};
 use crate::front::front_of_many;
 use crate::lanes::character_set::Unchanged;
 use crate::lanes::windows::STEP;
-use crate::way::{LARGE_ARRAY, LARGEST_ARRAY, SMALL_ARRAY, are_few};
+use crate::strategy::{LARGE_ARRAY, LARGEST_ARRAY, SMALL_ARRAY, are_few};
 use cesu8_bytes::flavor::Flavor;
 use cesu8_bytes::lanes::class::LANES;
 use cesu8_bytes::lanes::short::copy_short;
 use cesu8_bytes::pairs::{PAIR, PAIR_READ, PAIR_UTF8, is_pair, utf8_of_pair};
 use cesu8_bytes::strictness::Reading;
-use cesu8_bytes::writing::put::put;
+use cesu8_bytes::writing::offsets::put;
 
-// The lengths of buffers: for the longest text of so many bytes (`way`), and `ROOM` more, without
+// The lengths of buffers: for the longest text of so many bytes (`strategy`), and `ROOM` more, without
 // which the pass stops.
 pub const SMALL_STRICT: usize = SMALL_ARRAY + ROOM;
 

@@ -1,5 +1,5 @@
 use Rattle.std.proofs.Common.{◌≤◌}
-use Rattle.cesu8_decode.specs.declared.way.TheConstants.{LARGEST_ARRAY}
+use Rattle.cesu8_decode.specs.declared.strategy.TheConstants.{LARGEST_ARRAY}
 use Rattle.cesu8_decode.proofs.destinations.strings.first_part.Given as goal
 
 abbrev pub invariant-loop-at : goal.invariant-loop-at

@@ -1,0 +1,155 @@
+//! What an export returns.
+
+ghost use Rattle.std.specs.Prelude.{◌≡◌, false};
+ghost use Rattle.cesu8_c.specs.Answers.{answer_of, told_of_bytes, told_of_text, told_of_lossy_text};
+
+use simd_cesu8::{DecodeSliceFault, LossySliceFault, TooShort};
+
+/// The call succeeded.
+pub const OK: u32 = 0;
+/// The input must be UTF-8, and is not.
+pub const NOT_UTF8: u32 = 1;
+/// The input has no text.
+pub const INVALID: u32 = 2;
+/// The input ends before the bytes that its first two count.
+pub const TRUNCATED: u32 = 3;
+/// The length of the result does not fit its count.
+pub const TOO_LONG: u32 = 4;
+/// The result is longer than the buffer.
+pub const TOO_SMALL: u32 = 5;
+/// The piece ends within a character.
+pub const INCOMPLETE: u32 = 6;
+/// The next character does not fit in what is left of the buffer.
+pub const FULL: u32 = 7;
+
+/// What a call returns.
+#[repr(C)]
+#[derive(Drop)]
+pub struct Answer {
+    /// One of the statuses above.
+    pub status: u32,
+    /// With `OK` the result's length, with `TOO_SMALL` the needed length, otherwise 0. It is in
+    /// bytes, but from `cesu8_utf16_len` in UTF-16 code units.
+    pub length: usize,
+}
+
+impl Answer {
+    /// Reports a result of this length.
+    pub(crate) fn of_length(length: usize) -> Answer
+        ensures status { result.status ≡ OK }
+        ensures length { result.length ≡ length }
+    {
+        Answer { status: OK, length }
+    }
+
+    /// Reports that the buffer is too small for a result of this length.
+    pub(crate) fn too_small(length: usize) -> Answer
+        ensures status { result.status ≡ TOO_SMALL }
+        ensures length { result.length ≡ length }
+    {
+        Answer {
+            status: TOO_SMALL,
+            length,
+        }
+    }
+
+    /// Reports that there is no result, with this status.
+    pub(crate) fn without(status: u32) -> Answer
+        ensures status { result.status ≡ status }
+        ensures length { result.length ≡ 0 }
+    {
+        Answer { status, length: 0 }
+    }
+
+    /// Reports the result of a call that encodes.
+    pub(crate) fn of_bytes(outcome: Result<usize, TooShort>) -> Answer
+        ensures { result ≡ told_of_bytes outcome }
+    {
+        match outcome {
+            Ok(length) => Answer::of_length(length),
+            Err(fault) => Answer::too_small(fault.needed()),
+        }
+    }
+
+    /// Reports the result of a call that decodes.
+    pub(crate) fn of_text(outcome: Result<usize, DecodeSliceFault>) -> Answer
+        ensures { result ≡ told_of_text outcome }
+    {
+        match outcome {
+            Ok(length) => Answer::of_length(length),
+            Err(DecodeSliceFault::Invalid(_)) => Answer::without(INVALID),
+            Err(DecodeSliceFault::TooShort(fault)) => Answer::too_small(fault.needed()),
+        }
+    }
+
+    /// Reports the result of a call that decodes damaged bytes.
+    pub(crate) fn of_lossy_text(outcome: Result<usize, LossySliceFault>) -> Answer
+        ensures { result ≡ told_of_lossy_text outcome }
+    {
+        match outcome {
+            Ok(length) => Answer::of_length(length),
+            Err(LossySliceFault::TooLong) => Answer::without(TOO_LONG),
+            Err(LossySliceFault::TooShort(fault)) => Answer::too_small(fault.needed()),
+        }
+    }
+}
+
+/// What a call that decides returns.
+#[repr(C)]
+#[derive(Drop)]
+pub struct Decision {
+    /// `OK` or `NOT_UTF8`.
+    pub status: u32,
+    /// What was decided; false with `NOT_UTF8`.
+    pub is_needed: bool,
+}
+
+impl Decision {
+    /// Reports what was decided of a text.
+    pub(crate) fn of(is_needed: bool) -> Decision
+        ensures status { result.status ≡ OK }
+        ensures decided { result.is_needed ≡ is_needed }
+    {
+        Decision {
+            status: OK,
+            is_needed,
+        }
+    }
+
+    /// Reports that the input is not UTF-8.
+    pub(crate) fn without() -> Decision
+        ensures status { result.status ≡ NOT_UTF8 }
+        ensures undecided { result.is_needed ≡ false }
+    {
+        Decision {
+            status: NOT_UTF8,
+            is_needed: false,
+        }
+    }
+}
+
+/// What a call that reads a string with its length in front returns.
+#[repr(C)]
+#[derive(Drop)]
+pub struct Reading {
+    /// One of the statuses above.
+    pub status: u32,
+    /// With `OK` the result's length in bytes, with `TOO_SMALL` the needed length, otherwise 0.
+    pub length: usize,
+    /// How many bytes of the input the string takes; 0 with `TRUNCATED`.
+    pub taken: usize,
+}
+
+impl Reading {
+    /// Adds to a result how many bytes of the input it takes.
+    pub(crate) fn of(answer: Answer, taken: usize) -> Reading
+        ensures answer { answer_of result ≡ answer }
+        ensures taken { result.taken ≡ taken }
+    {
+        Reading {
+            status: answer.status,
+            length: answer.length,
+            taken,
+        }
+    }
+}

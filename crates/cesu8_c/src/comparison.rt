@@ -1,0 +1,44 @@
+//! What a call that compares returns.
+
+ghost use Rattle.std.specs.Prelude.{◌≡◌, pos};
+ghost use Rattle.cesu8_c.specs.Answers.{number_of};
+
+use crate::answer::{NOT_UTF8, OK};
+use std::cmp::Ordering;
+
+/// How two texts compare.
+#[repr(C)]
+#[derive(Drop)]
+pub struct Comparison {
+    /// `OK` or `NOT_UTF8`.
+    pub status: u32,
+    /// -1 if the first text is less, 1 if it is greater, and 0 if they are equal or with
+    /// `NOT_UTF8`.
+    pub order: i32,
+}
+
+impl Comparison {
+    /// Reports how two texts compare.
+    pub(crate) fn of(ordering: Ordering) -> Comparison
+        ensures status { result.status ≡ OK }
+        ensures order { result.order ≡ number_of ordering }
+    {
+        let order = match ordering {
+            Ordering::Less => -1,
+            Ordering::Equal => 0,
+            Ordering::Greater => 1,
+        };
+        Comparison { status: OK, order }
+    }
+
+    /// Reports that an input is not UTF-8.
+    pub(crate) fn without() -> Comparison
+        ensures status { result.status ≡ NOT_UTF8 }
+        ensures order { result.order ≡ pos 0 }
+    {
+        Comparison {
+            status: NOT_UTF8,
+            order: 0,
+        }
+    }
+}

@@ -1,0 +1,138 @@
+//! Strict decoding that appends to a vector: at most 64 bytes by one window, and more from one
+//! character that needs conversion to the next.
+//!
+//! If such characters are far apart, the test for the unchanged prefix finds the run between two of
+//! them, which is copied. If the byte after a run begins none, or the last one is cut off, the
+//! input is ill-formed.
+
+ghost use Rattle.std.specs.Prelude.{◌≡◌, ◌+◌, ◌<◌, ◌≤◌, length, vec_len, vec_capacity, OnErr, IfOk};
+ghost use Rattle.cesu8_text.specs.Reading.{HasNoStrictReading};
+ghost use Rattle.cesu8_bytes.specs.TextChunks.{IsReadSoFar};
+ghost use Rattle.cesu8_bytes.specs.declared.strictness.Strictness.TheVariants.{Strict};
+ghost use Rattle.cesu8_decode.specs.Decoding.{AppendsReading};
+ghost use Rattle.cesu8_decode.specs.Following.{Unchanged as AllUnchanged};
+ghost use Rattle.cesu8_decode.specs.Front.{IsFront, IsPartialFront};
+
+use super::chunks::append_chunks;
+use crate::front::few::front_of_few;
+use crate::front::{FoundFront, front_of_many, may_be_crossed};
+use crate::lanes::character_set::Unchanged;
+use crate::needs_conversion::{changes, prefix_of};
+use crate::pass::few::{FEW_STRICT, write_few};
+use crate::strategy::{FEW_BYTES, are_few};
+use cesu8_bytes::flavor::Flavor;
+use cesu8_bytes::pairs::{PAIR, PAIR_READ, utf8_of_pair};
+use cesu8_bytes::strictness::{NoText, StrictReading};
+use cesu8_bytes::writing::copies::{append, append_few, append_front};
+
+/// If the first unchanged run is shorter than this, the rest is decoded window by window, unless at
+/// most 64 bytes are left: windows are then faster.
+const FRONT: usize = 16;
+
+/// If a later unchanged run is shorter than this, the rest is decoded window by window: windows are
+/// faster if converted characters are close together.
+const LONG_FRONT: usize = 64;
+
+/// Appends the strictly decoded text of more than 64 bytes, of which the first `len` are unchanged.
+/// It goes from one converted character to the next as long as these are far apart, and decodes the
+/// rest window by window. It is not inlined, so that at most 64 bytes have few registers to save.
+#[inline(never)]
+pub fn append_many<F: Flavor>(bytes: &[u8], len: usize, before: Vec<u8>) -> Result<Vec<u8>, NoText>
+    requires many { FEW_BYTES < length bytes.now }
+    requires front { IsFront AllUnchanged F.flavor bytes.now len }
+    requires room { vec_len before + length bytes.now ≤ vec_capacity before }
+    ensures { AppendsReading F.flavor Strict bytes.now before result }
+{
+    let mut text = before;
+    let mut rest = bytes;
+    let mut len = len;
+    let mut least = FRONT;
+    while len < rest.len() {
+        let is_long = least <= len;
+        rest = append_to_next::<F>(rest, len, &mut text)?;
+        if are_few(rest) {
+            return append_rest::<F>(rest, text);
+        }
+        if !is_long {
+            // Input that ends within a character is rejected before all of it is decoded.
+            if may_be_crossed::<Unchanged>(rest, rest.len()) {
+                return Err(NoText);
+            }
+            return append_chunks::<F, StrictReading>(rest, text);
+        }
+        len = front_of_many::<F, Unchanged>(rest);
+        least = LONG_FRONT;
+    }
+    append(rest, &mut text);
+    Ok(text)
+}
+
+/// Appends the strictly decoded text of the last bytes, at most 64.
+#[inline(always)]
+fn append_rest<F: Flavor>(bytes: &[u8], before: Vec<u8>) -> Result<Vec<u8>, NoText>
+    requires few { length bytes.now ≤ FEW_BYTES }
+    requires room { vec_len before + length bytes.now ≤ vec_capacity before }
+    ensures { AppendsReading F.flavor Strict bytes.now before result }
+{
+    let front = front_of_few::<F>(bytes);
+    if front.len < bytes.len() {
+        return append_few_strictly::<F>(bytes, front, before);
+    }
+    let mut text = before;
+    append_few(bytes, &mut text);
+    Ok(text)
+}
+
+/// Appends the strictly decoded text of at most 64 bytes, which is written to an array first.
+/// `front` is their unchanged prefix, which is not all of them.
+#[inline(always)]
+pub fn append_few_strictly<F: Flavor>(
+    bytes: &[u8],
+    front: FoundFront,
+    before: Vec<u8>,
+) -> Result<Vec<u8>, NoText>
+    requires few { length bytes.now ≤ FEW_BYTES }
+    requires front { IsPartialFront F.flavor bytes.now front }
+    requires room { vec_len before + length bytes.now ≤ vec_capacity before }
+    ensures { AppendsReading F.flavor Strict bytes.now before result }
+{
+    let mut written = [0; FEW_STRICT];
+    let end = write_few::<F, StrictReading>(bytes, front, &mut written)?;
+    let mut text = before;
+    append_few(&written[..end], &mut text);
+    Ok(text)
+}
+
+/// Appends the unchanged prefix and, in UTF-8, the character after it. Returns the bytes after that
+/// character. If no character that needs conversion follows the prefix, the byte there is
+/// ill-formed, and an error is returned.
+#[inline(always)]
+fn append_to_next<'a, F: Flavor>(
+    bytes: &'a [u8],
+    len: usize,
+    out: &mut Vec<u8>,
+) -> Result<&'a [u8], NoText>
+    requires many { FEW_BYTES < length bytes.now }
+    requires front { IsFront AllUnchanged F.flavor bytes.now len × (len < length bytes.now) }
+    requires room { vec_len out.old + length bytes.now ≤ vec_capacity out.old }
+    ensures none { OnErr result (HasNoStrictReading F.flavor bytes.now) }
+    ensures read { IfOk result (λ rest.
+        IsReadSoFar F.flavor Strict bytes.now rest.now out.old.items out.new.items) }
+    ensures room { IfOk result (λ rest. vec_len out.new + length rest.now ≤ vec_capacity out.new) }
+    ensures within { IfOk result (λ rest. length rest.now < length bytes.now) }
+    ensures capacity { vec_capacity out.new ≡ vec_capacity out.old }
+{
+    let behind = &bytes[len..];
+    let mut padded = [0; PAIR_READ];
+    let prefix = prefix_of(behind, &mut padded);
+    if !changes::<F>(prefix) {
+        return Err(NoText);
+    }
+    append_front(bytes, len, out);
+    if prefix[0] == 0xC0 {
+        append(&[0], out);
+        return Ok(&behind[2..]);
+    }
+    append(&utf8_of_pair(prefix), out);
+    Ok(&behind[PAIR..])
+}

@@ -1,0 +1,49 @@
+//! Decodes to a caller's slice. Input that the mode returns unchanged is copied, and other input is
+//! decoded.
+
+ghost use Rattle.cesu8_decode.specs.PutReadings.{PutsText, ReadsAs};
+
+use crate::destinations::slices::{put_lossily, put_strictly};
+use crate::modes::Accepts;
+use crate::refusal::Unwritten;
+use cesu8_bytes::flavor::Flavor;
+use cesu8_bytes::strictness::{Reading, Strictness};
+use cesu8_bytes::writing::copies::copy_to_slice;
+
+/// Writes the text of the input in mode `A` to the start of the slice, and returns its length in
+/// bytes. It is an error if the slice is too short, and then nothing is written; in strict decoding
+/// also if a byte is ill-formed.
+#[inline(always)]
+pub fn decode_to_slice<F: Flavor, A: Accepts, S: Reading>(
+    bytes: &[u8],
+    buf: &mut [u8],
+) -> Result<usize, Unwritten>
+    ensures { PutsText S.which (ReadsAs S.which (A.reads F.flavor bytes.now)
+        (A.reads_lossily F.flavor bytes.now)) result buf.old buf.new }
+{
+    if A::is_short_kept::<F>(bytes) {
+        return copy_to_slice(bytes, buf).map_err(Unwritten::NoRoom);
+    }
+    decode_other_to_slice::<F, A, S>(bytes, buf)
+}
+
+/// Like `decode_to_slice`, without the fast path. It is not inlined, so that short ASCII has few
+/// registers to save.
+#[inline(never)]
+fn decode_other_to_slice<F: Flavor, A: Accepts, S: Reading>(
+    bytes: &[u8],
+    buf: &mut [u8],
+) -> Result<usize, Unwritten>
+    ensures { PutsText S.which (ReadsAs S.which (A.reads F.flavor bytes.now)
+        (A.reads_lossily F.flavor bytes.now)) result buf.old buf.new }
+{
+    let front = A::front_of_other::<F>(bytes);
+    if front.len == bytes.len() {
+        return copy_to_slice(bytes, buf).map_err(Unwritten::NoRoom);
+    }
+    // `Ok` and `?` copy a result field by field: a copy of the whole would wait for the stores.
+    match S::strictness() {
+        Strictness::Strict => Ok(put_strictly::<F>(bytes, front, buf)?),
+        Strictness::Lossy => Ok(put_lossily::<F>(bytes, front, buf)?),
+    }
+}

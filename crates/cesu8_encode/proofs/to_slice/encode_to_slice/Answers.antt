@@ -1,0 +1,19 @@
+use Rattle.std.proofs.Common.{sym, ◌∙◌, subst}
+use Rattle.std.proofs.lemmas.Bool.{both_ways, iff_false}
+use Rattle.cesu8_bytes.specs.Puts.{PutsAnswer}
+use Rattle.cesu8_text.proofs.encoding.NeedsEncoding.{encoding_is_bytes}
+use Rattle.cesu8_encode.proofs.to_slice.encode_to_slice.Goals as goal
+
+pub returns-then-not-needs_encoded : goal.returns-then-not-needs_encoded
+returns-then-not-needs_encoded g c =
+    let same = encoding_is_bytes g.F.Flavor.flavor c.args.text.now c.utf8.text
+    (iff_false c.needs_encoded.ensures c.if-not-needs_encoded.true) in
+    subst (λ answer. PutsAnswer answer c.copy_to_slice-then-not-needs_encoded.result c.args.buf.now c.copy_to_slice-then-not-needs_encoded.new.buf)
+    (c.as_bytes-then-not-needs_encoded.ensures.value ∙ sym same) c.copy_to_slice-then-not-needs_encoded.ensures
+
+pub returns-then-not-few_need_encoded : goal.returns-then-not-few_need_encoded
+returns-then-not-few_need_encoded g c =
+    let same = encoding_is_bytes g.F.Flavor.flavor c.args.text.now c.utf8.text
+    (λ needs. both_ways _ c.if-not-few_need_encoded.true (c.few_need_encoded.ensures needs)) in
+    subst (λ answer. PutsAnswer answer c.copy_to_slice.result c.args.buf.now c.copy_to_slice.new.buf)
+    (c.as_bytes.ensures.value ∙ sym same) c.copy_to_slice.ensures

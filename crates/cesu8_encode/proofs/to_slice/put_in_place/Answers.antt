@@ -1,0 +1,19 @@
+use Rattle.std.proofs.Common.{◌∙◌, sym, ap, ℕ, arith, rules, drop, length, ◌++◌, ◌≤◌}
+use Rattle.std.proofs.lemmas.List.{take_all, length-take}
+use Rattle.cesu8_encode.proofs.to_slice.put_in_place.Goals as goal
+
+-- The slice that is written to is as long as the encoding, so the encoding fills it.
+pub returns : goal.returns
+returns g c =
+    let whole : length c.write.new.out ≤ c.write.result =
+    omega (arith, ap length c.write.ensures.bytes, length-take {A = ℕ}) in
+    record {
+      written = (
+        c.encoded_len-len.ensures,
+        ap (λ bytes. bytes ++ drop c.encoded_len-len.result c.args.buf.now)
+            (sym (take_all c.write.result c.write.new.out whole) ∙ c.write.ensures.bytes),
+      );
+      fits = search rules;
+      needed = tt;
+      unchanged = tt;
+    }

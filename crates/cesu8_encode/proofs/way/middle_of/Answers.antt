@@ -1,6 +1,0 @@
-use Rattle.std.proofs.lemmas.Bool.{iff_false}
-use Rattle.cesu8_encode.proofs.way.middle_of.Goals as goal
-
--- The whole text is tested.
-pub returns-then-not-any_in_bytes : goal.returns-then-not-any_in_bytes
-returns-then-not-any_in_bytes g c = iff_false c.any_in_bytes.ensures c.if-not-any_in_bytes.true

@@ -1,0 +1,61 @@
+//! Encodes to a caller's buffer: copies the string if no byte changes, and encodes it otherwise.
+
+ghost use Rattle.std.specs.Prelude.{◌<◌, ◌≤◌, length};
+ghost use Rattle.std.specs.Str.{chars};
+ghost use Rattle.cesu8_text.specs.Encoding.{encoding};
+ghost use Rattle.cesu8_bytes.specs.Puts.{PutsAnswer};
+
+use crate::blocks::BLOCK_ENCODED;
+use crate::blockwise::write;
+use crate::strategy::is_block;
+use cesu8_bytes::BLOCK;
+use cesu8_bytes::fast_paths::{few_need_encoded, needs_encoded};
+use cesu8_bytes::flavor::Flavor;
+use cesu8_bytes::lengths::encoded_len;
+use cesu8_bytes::writing::copies::{NoRoom, copy_to_slice};
+
+/// Writes the encoding of a string to the start of a caller's buffer, if it fits, and returns its
+/// length. Encoding is out of line, so that a string that does not change uses no stack.
+#[inline(always)]
+pub fn encode_to_slice<F: Flavor>(text: &str, buf: &mut [u8]) -> Result<usize, NoRoom>
+    ensures { PutsAnswer (encoding F.flavor (chars text.now)) result buf.old buf.new }
+{
+    if is_block(text) {
+        // The compiler knows that the test and the copy get at most 32 bytes, and leaves out the
+        // rest.
+        if !few_need_encoded::<F>(text) {
+            return copy_to_slice(text.as_bytes(), buf);
+        }
+        return put_on_stack::<F>(text, buf);
+    }
+    if !needs_encoded::<F>(text) {
+        return copy_to_slice(text.as_bytes(), buf);
+    }
+    put_in_place::<F>(text, buf)
+}
+
+/// Encodes at most a block to the stack, and copies the result.
+#[inline(never)]
+#[tactic(auto, using(cesu8_text::proofs::encoding::Lengths::length_encoding_chars))]
+fn put_on_stack<F: Flavor>(text: &str, buf: &mut [u8]) -> Result<usize, NoRoom>
+    requires { length text.now ≤ BLOCK }
+    ensures { PutsAnswer (encoding F.flavor (chars text.now)) result buf.old buf.new }
+{
+    let mut written = [0; BLOCK_ENCODED];
+    let len = write::<F>(text, 0, &mut written);
+    copy_to_slice(&written[..len], buf)
+}
+
+/// Counts the length of the encoding, and encodes in place.
+#[inline(never)]
+#[tactic(auto, using(crate::proofs::encoder::EncodedLengths::no_shorter))]
+fn put_in_place<F: Flavor>(text: &str, buf: &mut [u8]) -> Result<usize, NoRoom>
+    ensures { PutsAnswer (encoding F.flavor (chars text.now)) result buf.old buf.new }
+{
+    let len = encoded_len::<F>(text);
+    if buf.len() < len {
+        return Err(NoRoom { needed: len });
+    }
+    write::<F>(text, len - text.len(), &mut buf[..len]);
+    Ok(len)
+}

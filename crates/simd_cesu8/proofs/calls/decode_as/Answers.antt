@@ -1,0 +1,64 @@
+use Rattle.std.proofs.Common.{ℕ, List, rules, ap, sym}
+use Rattle.std.specs.Str.{chars}
+use Rattle.std.specs.String.{string_bytes}
+use Rattle.std.proofs.lemmas.Str.{IsUtf8-string_bytes}
+use Rattle.cesu8_text.specs.Reading.{HasNoStrictReading}
+use Rattle.cesu8_text.proofs.order.Lawful.{lossy_is_strict_law}
+use Rattle.cesu8_text.proofs.reading.Borrowing.{never_borrowed}
+use Rattle.cesu8_text.proofs.reading.LossyBorrowing.{changed_reading}
+use Rattle.simd_cesu8.proofs.Faults.{refused_as}
+use Rattle.simd_cesu8.proofs.calls.decode_as.Goals as goal
+
+pub known_text-requires : goal.known_text-requires
+known_text-requires g c = (g.met.A.Accepts.known g.F.Flavor.flavor c.args.bytes.now).is_utf8 c.in_default.ensures.kept
+
+pub returns-in_default : goal.returns-in_default
+returns-in_default g c =
+    let kept = c.in_default.ensures.kept in
+    record {
+      text = ((g.met.A.Accepts.known g.F.Flavor.flavor c.args.bytes.now).kept _ kept).1 (ap chars c.known_text.ensures);
+      invalid = search rules;
+      borrowed = search rules;
+      borrowed_where = search (rules, kept);
+      succeeds = search rules;
+      capacity = search rules;
+    }
+
+pub decode_strict-requires : goal.decode_strict-requires
+decode_strict-requires g c = c.in-Some.ensures.front
+
+pub returns : goal.returns
+returns g c =
+    let f = g.F.Flavor.flavor in
+    let bytes = c.args.bytes.now in
+    let built = string_bytes c.in_ok-built.built in
+    let known = g.met.A.Accepts.known f bytes in
+    let not_kept : ¬ (g.A.Accepts.keeps f bytes) = c.in-Some.ensures.other in
+    let reads = c.in_ok-built.ensures.text in
+    record {
+      text = ((known.other not_kept).strictly (chars built)).1 reads;
+      invalid = search rules;
+      borrowed = never_borrowed (changed_reading f bytes built (λ unchanged. not_kept (known.unchanged unchanged))
+          (IsUtf8-string_bytes c.in_ok-built.built) (sym (lossy_is_strict_law f bytes (chars built) reads)));
+      borrowed_where = never_borrowed not_kept;
+      succeeds = search rules;
+      capacity = search rules;
+    }
+
+pub returns-in_err-built : goal.returns-in_err-built
+returns-in_err-built g c =
+    let f = g.F.Flavor.flavor in
+    let bytes = c.args.bytes.now in
+    let known = g.met.A.Accepts.known f bytes in
+    let not_kept : ¬ (g.A.Accepts.keeps f bytes) = c.in-Some.ensures.other in
+    let unread : HasNoStrictReading f bytes → (text : List ℕ) → ¬ (g.A.Accepts.reads f bytes text) =
+    λ none text reads. none text (((known.other not_kept).strictly text).0 reads) in
+    let refused = refused_as c.in_err-built.field-0.0 unread c.in_err-built.ensures.invalid in
+    record {
+      text = search rules;
+      invalid = search (rules, refused);
+      borrowed = search rules;
+      borrowed_where = search rules;
+      succeeds = λ kept. absurd (not_kept kept);
+      capacity = search rules;
+    }

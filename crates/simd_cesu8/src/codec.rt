@@ -1,0 +1,105 @@
+//! All that this crate uses of the crates below it, for both flavors, except the kernels in
+//! `implementation`. A codec that finds no result returns an error of its own; the functions here
+//! return it as an error of this crate.
+
+ghost use Rattle.std.specs.Prelude.{◌≡◌, length, IfOk};
+ghost use Rattle.std.specs.Str.{chars};
+ghost use Rattle.std.specs.String.{string_bytes, string_capacity};
+ghost use Rattle.simd_cesu8.specs.Encoding.{encoding};
+ghost use Rattle.simd_cesu8.specs.Reading.{IsStrictReading, HasNoStrictReading};
+ghost use Rattle.cesu8_decode.specs.Front.{IsPartialFront};
+ghost use Rattle.simd_cesu8.specs.Fault.{OnInvalid};
+ghost use Rattle.simd_cesu8.specs.Slices.{WritesAnswer, WritesReading, WritesLossyReading};
+
+pub mod value;
+
+use crate::error::{DecodeFault, DecodeSliceFault, DecodingError, LossySliceFault, TooShort};
+pub use cesu8_bytes::fast_paths::{
+    begins_with_unchanged_ascii, is_short_unchanged_ascii, needs_encoded,
+};
+pub use cesu8_bytes::flavor::{Cesu8Flavor, Flavor, Mutf8Flavor};
+pub use cesu8_bytes::lengths::{encoded_len, encoded_len_by_need, utf16_len};
+pub use cesu8_bytes::order::compare_as_utf16;
+use cesu8_bytes::strictness::{LossyReading, StrictReading};
+pub use cesu8_bytes::utf8::known_text;
+pub use cesu8_bytes::writing::copies::{copy, copy_text};
+use cesu8_decode::front::FoundFront;
+pub use cesu8_decode::modes::{Accepts, EncodingAlone, Lenient, front_unless_kept, is_utf8};
+use cesu8_decode::refusal::{Refusal, Unwritten};
+use cesu8_decode::to_slice;
+pub use cesu8_decode::valid::valid_up_to;
+pub use cesu8_decode::{decode_lossy, decoded_len, lossy_len};
+pub use cesu8_encode::{encode, encode_into};
+use std::alloc::Global;
+
+/// Decodes the bytes strictly, with one allocation of their length. `front` says where a check of
+/// the bytes stopped: the bytes before it are whole characters that are the same in UTF-8, and it
+/// is less than the input's length.
+#[inline(always)]
+pub fn decode_strict<F: Flavor>(
+    alloc: Global,
+    bytes: &[u8],
+    front: FoundFront,
+) -> Result<String, DecodeFault>
+    requires { IsPartialFront F.flavor bytes.now front }
+    ensures text { IfOk result (λ text.
+        IsStrictReading F.flavor bytes.now (chars (string_bytes text))) }
+    ensures capacity { IfOk result (λ text. string_capacity text ≡ length bytes.now) }
+    ensures invalid { OnInvalid result (HasNoStrictReading F.flavor bytes.now) }
+{
+    match cesu8_decode::decode_strict::<F>(alloc, bytes, front) {
+        Ok(text) => Ok(text),
+        Err(Refusal::NoText) => Err(DecodeFault::Invalid(DecodingError(()))),
+        Err(Refusal::Memory(error)) => Err(DecodeFault::Memory(error)),
+    }
+}
+
+/// Writes the encoding of a string to a caller's buffer, if it fits.
+#[inline(always)]
+pub fn encode_to_slice<F: Flavor>(value: &str, buf: &mut [u8]) -> Result<usize, TooShort>
+    ensures { WritesAnswer (encoding F.flavor (chars value.now)) result buf.old buf.new }
+{
+    match cesu8_encode::to_slice::encode_to_slice::<F>(value, buf) {
+        Ok(len) => Ok(len),
+        Err(no_room) => Err(TooShort::new(no_room.needed)),
+    }
+}
+
+/// Decodes bytes in the mode `A`, and writes the text's UTF-8 to a caller's buffer, if it fits.
+#[inline(always)]
+pub fn decode_to_slice<F: Flavor, A: Accepts>(
+    bytes: &[u8],
+    buf: &mut [u8],
+) -> Result<usize, DecodeSliceFault>
+    ensures { WritesReading (A.reads F.flavor bytes.now) result buf.old buf.new }
+{
+    match copy_or_write::decode_to_slice::<F, A, StrictReading>(bytes, buf) {
+        Ok(len) => Ok(len),
+        // A strict reading is never too long.
+        Err(Unwritten::NoText) | Err(Unwritten::TooLong) => {
+            Err(DecodeSliceFault::Invalid(DecodingError(())))
+        }
+        Err(Unwritten::NoRoom(no_room)) => {
+            Err(DecodeSliceFault::TooShort(TooShort::new(no_room.needed)))
+        }
+    }
+}
+
+/// Like `decode_to_slice`, but writes U+FFFD for each ill-formed byte. This makes three bytes of
+/// one, so the length may not fit `usize`.
+#[inline(always)]
+pub fn decode_lossy_to_slice<F: Flavor, A: Accepts>(
+    bytes: &[u8],
+    buf: &mut [u8],
+) -> Result<usize, LossySliceFault>
+    ensures { WritesLossyReading (A.reads_lossily F.flavor bytes.now) result buf.old buf.new }
+{
+    match copy_or_write::decode_to_slice::<F, A, LossyReading>(bytes, buf) {
+        Ok(len) => Ok(len),
+        // All bytes have a lossy reading.
+        Err(Unwritten::NoText) | Err(Unwritten::TooLong) => Err(LossySliceFault::TooLong),
+        Err(Unwritten::NoRoom(no_room)) => {
+            Err(LossySliceFault::TooShort(TooShort::new(no_room.needed)))
+        }
+    }
+}
