@@ -27,7 +27,7 @@ use crate::codec::{EncodingAlone, Lenient, Mutf8Flavor, encoded_len_by_need};
 use crate::counted_text::CountedText;
 use crate::cow::{CowBytes, CowText};
 use crate::error::{DecodeFault, DecodeSliceFault, LossySliceFault, TooShort};
-use crate::{borrow_or_build, internal};
+use crate::{calls, codec};
 use std::alloc::{AllocError, Global};
 
 /// Like [`crate::needs_encoded`], for MUTF-8, which also differs from UTF-8 if the string contains
