@@ -62,7 +62,7 @@ for level in $levels; do
         exit 1
     fi
     mkdir "$scratch/$level"
-    (cd "$scratch/$level" && ar x "$crate/out/libcesu8_static.a")
+    (cd "$scratch/$level" && ar x "$crate/out/libcesu8_c.a")
     ld -r -o "$scratch/$level.o" "$scratch/$level"/*.o
     # Each export gets the level behind its name. What the code calls keeps its name.
     nm -g --defined-only "$scratch/$level.o" |
