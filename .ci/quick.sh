@@ -2,8 +2,8 @@
 #
 # It is no verdict: the gate is. It begins with copies of what `rt` keeps in the `out` folders of this clone.
 # Over these
-# - it proves the crates that differ, and those above them that have `specs`, which promise something. What
-#   is below is proved only where this clone has no proof of it as it stands;
+# - it proves the crates that differ, and those above them that have `specs`, which promise something, with the
+#   program over one of these. What is below is proved only where this clone has no proof of it as it stands;
 # - the tests of all crates that differ or stand above run, without proof;
 # - the edits of files that differ are tried, but .ci/shows.sh is left to the gate. All of these crates can
 #   be applied;
@@ -70,7 +70,7 @@ choose_crates() {
             differing+=("$crate")
         elif ! is_above "$crate"; then
             continue
-        elif [[ -d crates/$crate/specs ]]; then
+        elif [[ -d crates/$crate/specs || $crate == cesu8_cli ]]; then
             above+=("$crate")
         fi
         if grep -rqF '#[test]' "crates/$crate/src"; then

@@ -4,7 +4,7 @@
 # That a check refuses an edit does not always tell that a goal is false: told.awk says when. Such an edit
 # has a line `shows: TEST`, an expression of the language: a call with its input, compared with the wrong
 # answer. TEST has to hold for the changed code, and not for the code as it is. It may name what any crate
-# makes public, `alloc`, and the reader and the writer of cesu8_cli's tests, as `devices`.
+# makes public, `alloc`, and the reader and the writer of cli_tests, as `devices`.
 #
 # Each edit changes a copy of its crate, which has a name of its own and stands beside the unchanged one, as
 # copies of the crates do through which TEST reaches it. So no edit has a part in what another one shows,
@@ -108,7 +108,7 @@ mapfile -t edits < <(grep -rl --include='*.edit' '^shows: ' "${@:-crates}")
 mkdir -p "$shown/src"
 cp HANDLES "$tree"
 printf '#![tactic(auto)]\n\nmod devices;\n' >"$shown/src/lib.rt"
-cp crates/cesu8_cli/src/run/tests/devices.rt "$shown/src"
+cp crates/cli_tests/src/devices.rt "$shown/src"
 unchanged=''
 uses=''
 for number in "${!edits[@]}"; do add_edit "${edits[number]}" "$number"; done

@@ -77,15 +77,15 @@ handed_on() {
     } | sed "s/^$below\t/$crate\t/"
 }
 
-# All that users can name. The program exports nothing, so there it is everything but `main` and the
-# tests.
+# All that users can name. The program's are those of the library that it passes its arguments and streams
+# to: nothing else uses that.
 everything() {
     local file
     public_items simd_cesu8 '' lib.rt
     public_items java_text '' lib.rt
     public_items cesu8_stream '' lib.rt
-    for file in crates/cesu8_cli/src/*.rt; do
-        [[ $file == */main.rt ]] || items cesu8_cli '' "${file##*/}"
+    for file in crates/cesu8_cli_run/src/*.rt; do
+        [[ $file == */lib.rt ]] || items cesu8_cli_run '' "${file##*/}" | sed 's/^cesu8_cli_run\t/cesu8_cli\t/'
     done
     public_items cesu8_c '' lib.rt
 }
@@ -172,7 +172,7 @@ texts() {
     awk -F '\t' '$3 !~ /^!(fn|item)$/ { print $4 }' "$scratch/items" >"$scratch/cited"
     mapfile -t files < <(sort -u "$scratch/files")
     awk -f tests/definitions.awk "$scratch/cited" "${files[@]}" \
-        crates/{cesu8_text,cesu8_bytes,simd_cesu8,java_text,cesu8_stream,cesu8_cli,cesu8_c}/specs/*.antt |
+        crates/{cesu8_text,cesu8_bytes,simd_cesu8,java_text,cesu8_stream,cesu8_cli_run,cesu8_c}/specs/*.antt |
         sed 's,^crates/\([a-z0-9_]*\)/\([^\t]*\)\t,\1 \2: ,'
 }
 

@@ -1,13 +1,9 @@
 //! Converts between UTF-8, CESU-8 and Modified UTF-8, from standard input to standard output.
+//! `cesu8_cli_run` has all but the arguments and the streams.
 #![tactic(auto)]
 
-mod answer;
-mod command;
-mod fault;
-mod run;
-
-use crate::fault::{RunFault, fault_line, fault_status};
-use crate::run::run;
+use cesu8_cli_run::fault::{RunFault, fault_line, fault_status};
+use cesu8_cli_run::run::run;
 use std::process::ExitCode;
 use std::{env, io};
 
