@@ -1,12 +1,13 @@
-//! The calls of `simd_cesu8` as bench measures them, over byte slices.
+//! The calls of `simd_cesu8` as `bench` measures them, over byte slices.
 //!
-//! C passes each slice as a pointer and a length, as `bench/measured.h` declares it. The result is
-//! made as the library makes it, and then copied to the front of `buf` if it fits. So a call with
-//! an empty `buf` costs as much as the library's call, and returns the length of its result. A call
-//! on a slice writes to `buf` itself. Calls that take a text first test the input for UTF-8.
+//! C passes each slice as a pointer and a length, as `bench/measured.h` declares it. An export
+//! calls the library, and copies the result to the start of `buf` if it fits. So with an empty
+//! `buf` it costs as much as the library's call, and returns the length of the result. The calls
+//! whose names end in `to_slice` write to `buf` directly. Calls that take a text first test the
+//! input for UTF-8.
 //!
-//! The exports have no contracts: they are proved to be safe and to return. What they return bench's
-//! driver compares before it measures.
+//! The exports have no contracts: they are only proved to be safe and to return. The driver of
+//! `bench` compares their results with a plain codec before it measures.
 #![tactic(auto)]
 
 mod each;

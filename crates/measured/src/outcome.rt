@@ -1,20 +1,21 @@
-//! What an export returns for the library's result, and what it writes to the caller's buffer.
+//! Converts the library's results to what an export returns, and copies them to the caller's
+//! buffer.
 
 use simd_cesu8::{CowBytes, CowText, DecodeFault, DecodeSliceFault, LossySliceFault, TooShort};
 use std::alloc::AllocError;
 
-/// What a call returned. With neither a result nor an invalid input, a request for memory was
-/// refused, the buffer is too short, or the length of a lossy reading does not fit `usize`.
+/// The result of a call. If there is no result although the input is valid, an allocation failed,
+/// the buffer is too short, or the length of a lossy reading does not fit `usize`.
 #[repr(C)]
 #[derive(Drop)]
 pub struct Outcome {
-    /// The length of the result in bytes, and 0 without one.
+    /// The length of the result in bytes, or 0 if there is none.
     pub length: usize,
     /// Whether there is a result.
     pub has_answer: bool,
-    /// Whether the result borrowed from the input; false without one.
+    /// Whether the result borrows from the input; false if there is none.
     pub is_borrowed: bool,
-    /// Whether the input has no text.
+    /// Whether the call rejected the input as invalid.
     pub is_invalid: bool,
 }
 
@@ -75,7 +76,7 @@ pub fn tell_bytes_written(answer: Result<usize, TooShort>) -> Outcome {
     }
 }
 
-/// Copies a result to the front of the buffer if it fits there, and returns the outcome.
+/// Copies a result to the start of the buffer if it fits, and returns the outcome.
 fn tell(answer: &[u8], is_borrowed: bool, buf: &mut [u8]) -> Outcome {
     if answer.len() <= buf.len() {
         buf[..answer.len()].copy_from_slice(answer);
@@ -88,7 +89,7 @@ fn tell(answer: &[u8], is_borrowed: bool, buf: &mut [u8]) -> Outcome {
     }
 }
 
-/// Returns the outcome without a result.
+/// Returns the outcome of a call without a result.
 pub fn without_answer(is_invalid: bool) -> Outcome {
     Outcome {
         length: 0,
