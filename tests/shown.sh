@@ -93,7 +93,7 @@ look_at_call_pages() {
         while read -r call; do
             grep -qE "^[a-z].*[ *]$call\(" "$scratch/shown_page" || wrong "man shows no $call"
         done <"$scratch/calls"
-        grep -q 'U+FFFD for each byte that is in none' "$scratch/shown_page" ||
+        grep -q 'U+FFFD for each byte that is not part of one' "$scratch/shown_page" ||
             wrong 'man does not show what the header says'
     fi
 }
