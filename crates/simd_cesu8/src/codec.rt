@@ -11,7 +11,7 @@ ghost use Rattle.cesu8_decode.specs.Front.{IsPartialFront};
 ghost use Rattle.simd_cesu8.specs.Fault.{OnInvalid};
 ghost use Rattle.simd_cesu8.specs.Slices.{WritesAnswer, WritesReading, WritesLossyReading};
 
-pub mod value;
+pub mod encoding;
 
 use crate::error::{DecodeFault, DecodeSliceFault, DecodingError, LossySliceFault, TooShort};
 pub use cesu8_bytes::fast_paths::{
@@ -73,7 +73,7 @@ pub fn decode_to_slice<F: Flavor, A: Accepts>(
 ) -> Result<usize, DecodeSliceFault>
     ensures { WritesReading (A.reads F.flavor bytes.now) result buf.old buf.new }
 {
-    match copy_or_write::decode_to_slice::<F, A, StrictReading>(bytes, buf) {
+    match to_slice::decode_to_slice::<F, A, StrictReading>(bytes, buf) {
         Ok(len) => Ok(len),
         // A strict reading is never too long.
         Err(Unwritten::NoText) | Err(Unwritten::TooLong) => {
@@ -94,7 +94,7 @@ pub fn decode_lossy_to_slice<F: Flavor, A: Accepts>(
 ) -> Result<usize, LossySliceFault>
     ensures { WritesLossyReading (A.reads_lossily F.flavor bytes.now) result buf.old buf.new }
 {
-    match copy_or_write::decode_to_slice::<F, A, LossyReading>(bytes, buf) {
+    match to_slice::decode_to_slice::<F, A, LossyReading>(bytes, buf) {
         Ok(len) => Ok(len),
         // All bytes have a lossy reading.
         Err(Unwritten::NoText) | Err(Unwritten::TooLong) => Err(LossySliceFault::TooLong),
