@@ -4,7 +4,7 @@
 
 ghost use Rattle.std.specs.Prelude.{◌<◌};
 
-use crate::outcome::{Outcome, tell_length, without_answer};
+use crate::outcome::{Outcome, outcome_of_length, without_result};
 use simd_cesu8::implementation::text_of;
 
 /// Texts of `length` bytes each, one after another.
@@ -18,7 +18,7 @@ struct Texts<'a> {
 ///
 /// It returns `None` if a call does, if the last text is shorter, if a text ends within a
 /// character, or if the sum does not fit `usize`.
-pub fn tell_sum<F: Fn(&str) -> Option<usize>>(
+pub fn outcome_of_sum<F: Fn(&str) -> Option<usize>>(
     texts: &[u8],
     length: usize,
     times: usize,
@@ -27,11 +27,11 @@ pub fn tell_sum<F: Fn(&str) -> Option<usize>>(
     requires { F.IsAlwaysCallable call }
 {
     let Some(all) = text_of(texts) else {
-        return without_answer(true);
+        return without_result(true);
     };
     match repeated_sum(Texts { all, length }, times, call) {
-        Some(sum) => tell_length(sum),
-        None => without_answer(false),
+        Some(sum) => outcome_of_length(sum),
+        None => without_result(false),
     }
 }
 

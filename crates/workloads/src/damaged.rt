@@ -26,7 +26,7 @@ pub fn run(
         texts.renew(round);
         others.renew(round);
         replace_all(alloc, &texts, digest)?;
-        refuse_all(alloc, &others, digest);
+        decode_strictly(alloc, &others, digest);
     }
     Ok(())
 }
@@ -47,7 +47,7 @@ fn replace_all(alloc: Global, texts: &Pool, digest: &mut Digest) -> Result<(), A
 }
 
 /// Decodes the other inputs strictly. The digest gets each text, and 1 for each error.
-fn refuse_all(alloc: Global, others: &Pool, digest: &mut Digest) {
+fn decode_strictly(alloc: Global, others: &Pool, digest: &mut Digest) {
     for index in 0..others.len() {
         let bytes = others.piece(index);
         let outcome = if index % 2 == 0 {

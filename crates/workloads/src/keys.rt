@@ -34,7 +34,7 @@ pub fn run(
             write_sorted(alloc, &texts, digest)?;
             first = first.wrapping_add(SORTED);
         }
-        look_through(&pool, digest);
+        decode_to_buffer(&pool, digest);
     }
     Ok(())
 }
@@ -74,7 +74,7 @@ fn write_sorted(
 }
 
 /// Decodes all keys, each to the same buffer, as a search through them does.
-fn look_through(pool: &Pool, digest: &mut Digest) {
+fn decode_to_buffer(pool: &Pool, digest: &mut Digest) {
     let mut buffer = [0; MOST];
     for index in 0..pool.len() {
         match decode_strict_to_slice(pool.piece(index), &mut buffer) {

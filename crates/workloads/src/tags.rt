@@ -27,7 +27,7 @@ pub fn run(
         if round % 2 == 0 {
             rewrite(alloc, &pool, digest)?;
         } else {
-            look_through(&pool, digest);
+            decode_to_buffer(&pool, digest);
         }
     }
     Ok(())
@@ -65,7 +65,7 @@ fn without_first(text: &str) -> &str {
 }
 
 /// Decodes all strings, each to the same buffer.
-fn look_through(pool: &Pool, digest: &mut Digest) {
+fn decode_to_buffer(pool: &Pool, digest: &mut Digest) {
     let mut buffer = [0; MOST];
     let mut rest = pool.bytes();
     for _ in 0..pool.len() {
