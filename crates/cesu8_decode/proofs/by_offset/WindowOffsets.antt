@@ -1,6 +1,5 @@
 -- What is known about the offsets of a window depends on its bytes there and a few more.
 use Rattle.std.proofs.Common.{◌≡◌, ℕ, zero, suc, ◌+◌, ◌<◌, ◌≤◌, List, ◌++◌, refl, sym, ap, ◌∙◌, arith, get_or, append_assoc, add-zero, zero-add, suc-add, length, drop, length-drop, get_or-drop, ◌∷◌}
-use lib.Lanes.{chunk}
 use Rattle.cesu8_text.specs.Encoding.{Flavor}
 use Rattle.cesu8_decode.specs.DecodedOffsets.{first_width, first_width_by, width_at, decoded_byte, decoded_at, decoded, is_ill_formed_at, ill_formed_by, saved, saved_between}
 pub use Rattle.cesu8_decode.specs.DecodedOffsets.{boundary_by, is_boundary_at}
@@ -120,8 +119,8 @@ follows_zeros bytes k =
     let offset : 5 + k ≡ suc (suc (suc (suc (suc k)))) = omega arith in
     ap (λ p. get_or (0 ∷ 0 ∷ 0 ∷ 0 ∷ 0 ∷ bytes) p 0) offset
 
--- The bytes at an offset are in their window five bytes later.
-pub chunk_in_window : (bytes : List ℕ) (at n : ℕ) → chunk at n bytes ≡ chunk (at + 5) n (0 ∷ 0 ∷ 0 ∷ 0 ∷ 0 ∷ bytes)
-chunk_in_window bytes at n =
-    let offset : suc (suc (suc (suc (suc at)))) ≡ at + 5 = omega arith in
-    ap (λ p. chunk p n (0 ∷ 0 ∷ 0 ∷ 0 ∷ 0 ∷ bytes)) offset
+-- The width at an offset is in the window five bytes later.
+pub width_there : (f : Flavor) (bytes : List ℕ) (i : ℕ) → width_at f (0 ∷ 0 ∷ 0 ∷ 0 ∷ 0 ∷ bytes) (i + 5) ≡ width_at f bytes i
+width_there f bytes i = width_agrees f (0 ∷ 0 ∷ 0 ∷ 0 ∷ 0 ∷ bytes) bytes (i + 5) i (λ k small.
+    let offset : i + 5 + k ≡ 5 + (i + k) = omega arith in
+    ap (λ p. get_or (0 ∷ 0 ∷ 0 ∷ 0 ∷ 0 ∷ bytes) p 0) offset ∙ follows_zeros bytes (i + k))

@@ -14,7 +14,6 @@ use Rattle.cesu8_text.specs.Encoding.{Flavor}
 use Rattle.cesu8_bytes.specs.Packing.{written_for, written}
 use Rattle.cesu8_bytes.specs.Pairs.{null_at}
 use Rattle.cesu8_bytes.specs.Puts.{WritesAt}
-use Rattle.cesu8_bytes.specs.declared.strictness.Strictness.TheVariants.{Lossy}
 use Rattle.cesu8_bytes.proofs.lists.Stored.{first_written, written_behind}
 use Rattle.cesu8_decode.specs.DecodedOffsets.{first_width_by, width_at, window_of, is_boundary_at, is_ill_formed_at, ill_formed_by, byte_by, goes_by, decoded_byte, decoded_at, decoded, one_at, two_at, three_at, pair_at}
 use Rattle.cesu8_decode.specs.Masks.{IsWindow, is_null_at, is_pair_at, is_high_surrogate, changed_byte}
@@ -22,8 +21,11 @@ use Rattle.cesu8_decode.specs.declared.lanes.windows.Window.{Window}
 use Rattle.cesu8_decode.proofs.by_offset.CharacterBoundaries.{boundary_ends}
 use Rattle.cesu8_decode.proofs.by_offset.WidthTests.{width_tells}
 use Rattle.cesu8_decode.proofs.decoder.EventBits.{unset}
-use Rattle.cesu8_decode.proofs.decoder.Events.{marked, unmarked, shifted_first, shifted_next, none_changes, ends_within, rest_bit}
-use Rattle.cesu8_decode.proofs.decoder.EventsDecoded.{byte_there, width_there}
+use Rattle.cesu8_decode.proofs.decoder.EventBits.{shifted_first, shifted_next}
+use Rattle.cesu8_decode.proofs.decoder.MaskBits.{marked, unmarked, rest_bit}
+use Rattle.cesu8_decode.proofs.decoder.WindowEnds.{none_changes, ends_within}
+use Rattle.cesu8_decode.proofs.by_offset.WindowOffsets.{width_there}
+use Rattle.cesu8_decode.proofs.decoder.EventsDecoded.{byte_there}
 use Rattle.cesu8_decode.proofs.decoder.FirstLanes.{on_range}
 use Rattle.cesu8_decode.proofs.decoder.EventsPacked.{range_split, range_same, range_length, range_few, written_on_range, bits_are}
 
@@ -336,7 +338,7 @@ module _ (f : Flavor) (bytes : List ℕ) (at : ℕ) (window : Window) (is : IsWi
       (λ (other : ¬ (bit_at window.pairs i ≡ 1)).
       ne_eqb (bit_at window.pairs i) 1 other
       ∙ sym (⊎_elim (λ (begins : i < is.n). unmarked window.pairs (is_pair_at f bytes) at is.n is.pairs i (unset window.pairs i other) begins)
-      (λ (past : is.n ≤ i). (none_changes Lossy is long (at + i) (is.rest (at + i) (omega arith) (omega arith)).0).0)
+      (λ (past : is.n ≤ i). (none_changes is (at + i) (is.rest (at + i) (omega arith) (omega arith)).0).0)
       (cases_lt i is.n))
       ∙ same)
       (cases_eq (bit_at window.pairs i) 1)
@@ -362,7 +364,7 @@ module _ (f : Flavor) (bytes : List ℕ) (at : ℕ) (window : Window) (is : IsWi
       (λ (other : ¬ (bit_at window.nulls i ≡ 1)).
       ne_eqb (bit_at window.nulls i) 1 other
       ∙ sym (⊎_elim (λ (begins : i < is.n). unmarked window.nulls (is_null_at f bytes) at is.n is.nulls i (unset window.nulls i other) begins)
-      (λ (past : is.n ≤ i). (none_changes Lossy is long (at + i) (is.rest (at + i) (omega arith) (omega arith)).0).1)
+      (λ (past : is.n ≤ i). (none_changes is (at + i) (is.rest (at + i) (omega arith) (omega arith)).0).1)
       (cases_lt i is.n))
       ∙ same)
       (cases_eq (bit_at window.nulls i) 1)
@@ -408,7 +410,7 @@ module _ (f : Flavor) (bytes : List ℕ) (at : ℕ) (window : Window) (is : IsWi
       shifted_next window.pairs i (i - 1) small (omega (arith, later))
       ∙ unset window.pairs (i - 1) (λ set.
       let begins = marked window.pairs (is_pair_at f bytes) at is.n is.pairs (i - 1) set in
-      omega (arith, later, past, ends_within Lossy is long (i - 1) 6 (omega arith) (sym (eqb-true _ _ begins.1)) begins.0)))
+      omega (arith, later, past, ends_within is (i - 1) 6 (omega arith) (sym (eqb-true _ _ begins.1)) begins.0)))
       (cases_eq i 0)
 
   -- For each offset after the window one byte is packed.

@@ -19,7 +19,7 @@ use Rattle.cesu8_decode.specs.Masks.{is_null_at, is_pair_at}
 use Rattle.cesu8_decode.proofs.by_offset.CharacterBoundaries.{boundary_ends, boundary_where, ends_before, zero_width}
 use Rattle.cesu8_decode.proofs.by_offset.DecodedText.{decoded_from_boundary}
 use Rattle.cesu8_decode.proofs.by_offset.IllFormed.{not_reached}
-use Rattle.cesu8_decode.proofs.by_offset.WindowOffsets.{follows_zeros, follows_later, width_in, decoded_split}
+use Rattle.cesu8_decode.proofs.by_offset.WindowOffsets.{follows_zeros, width_there, follows_later, width_in, decoded_split}
 use Rattle.cesu8_decode.proofs.by_offset.WidthTests.{null_found, pair_of_test, width_tells}
 use Rattle.cesu8_decode.proofs.chunks.Changed.{pair_width, pair_read, seen_null_read}
 
@@ -31,11 +31,6 @@ byte_there bytes i = let offset : i + 5 ≡ 5 + i = omega arith in ap (λ p. get
 
 byte_after : (bytes : List ℕ) (i k : ℕ) → get_or (window_of bytes) (i + 5 + k) 0 ≡ get_or bytes (i + k) 0
 byte_after bytes i k = let offset : i + 5 + k ≡ i + k + 5 = omega arith in ap (λ p. get_or (window_of bytes) p 0) offset ∙ byte_there bytes (i + k)
-
--- The width at an offset is in the window five bytes later.
-pub width_there : (f : Flavor) (bytes : List ℕ) (i : ℕ) → width_at f (window_of bytes) (i + 5) ≡ width_at f bytes i
-width_there f bytes i k =
-    first_width_by f (byte_there bytes i k) (byte_after bytes i 1 k) (byte_after bytes i 2 k) (byte_after bytes i 3 k) (byte_after bytes i 4 k) (byte_after bytes i 5 k)
 
 zeros_before : (bytes : List ℕ) (i : ℕ) → i < 5 → get_or (window_of bytes) i 0 ≡ 0
 zeros_before bytes i small = eqb-true _ _ (agree_below_at (λ s. eqb (get_or (window_of bytes) s 0) 0) (λ _. true) 5 i refl small)

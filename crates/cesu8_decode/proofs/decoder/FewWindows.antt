@@ -17,7 +17,8 @@ use Rattle.cesu8_decode.proofs.decoder.BlocksInPlace.{windows_alike}
 use Rattle.cesu8_decode.proofs.decoder.FormMasks.{map_alike}
 use Rattle.cesu8_decode.proofs.decoder.MaskBits.{and_bits, without_bits, no_bits, told_by, dropped, marks_from, bits_from, no_marks}
 use Rattle.cesu8_decode.proofs.decoder.MaskTests.{pair_alone, pair_width, no_null_of}
-use Rattle.cesu8_decode.proofs.decoder.WindowEnds.{ends_at_zero, boundary_at_zero}
+use Rattle.cesu8_decode.proofs.by_offset.CharacterBoundaries.{boundary_at_zero}
+use Rattle.cesu8_decode.proofs.decoder.WindowEnds.{ends_at_zero}
 
 -- Bytes with zeros after them agree with the bytes at every offset, also after their end.
 pub alike_with_zeros : (bytes source : List ℕ) (m : ℕ) → source ≡ bytes ++ replicate m 0 → (k : ℕ) → get_or source k 0 ≡ get_or bytes k 0
