@@ -109,23 +109,11 @@ pair_later a b d e g h pair = grind (arith, nat_tests)
 -- Each byte of a character after the first one is at least 80 (hexadecimal).
 bytes_later : (f : Flavor) (a b d e g h : ℕ) → let w = first_width_by f a b d e g h in
     (2 ≤ w → 0x80 ≤ b) × (3 ≤ w → 0x80 ≤ d) × (4 ≤ w → 0x80 ≤ e) × (4 ≤ w → 0x80 ≤ g) × (4 ≤ w → 0x80 ≤ h)
-bytes_later f a b d e g h =
-    let w = first_width_by f a b d e g h in
-    let tells = width_tells f a b d e g h in
-    let pair : 4 ≤ w → (0x80 ≤ d) × (0x80 ≤ e) × (0x80 ≤ g) × (0x80 ≤ h) = λ wide.
-    ⊎_elim (λ (low : w ≤ 3). absurd (omega arith)) (λ (six : w ≡ 6). pair_later a b d e g h (tells.3 six)) tells.0 in (
-      λ wide. ⊎_elim (λ (low : b < 0x80). absurd (omega (arith, wide, low_second f a b d e g h low))) (λ (high : 0x80 ≤ b). high) (cases_lt b 0x80),
-      λ wide. ⊎_elim (λ (short : w < 4). three_later a b d (tells.4 (omega arith))) (λ (long : 4 ≤ w). (pair long).0) (cases_lt w 4),
-      λ wide. (pair wide).1,
-      λ wide. (pair wide).2,
-      λ wide. (pair wide).3,
-    )
+bytes_later f a b d e g h = grind (arith, nat_tests, width_tells, pair_later, low_second, three_later)
 
 zero_ends : (f : Flavor) (a b d e g h s : ℕ) → 0 < s → (s ≡ 1 → b ≡ 0) → (s ≡ 2 → d ≡ 0) → (s ≡ 3 → e ≡ 0) → (s ≡ 4 → g ≡ 0) → (s ≡ 5 → h ≡ 0) →
     first_width_by f a b d e g h ≤ s
-zero_ends f a b d e g h s some h1 h2 h3 h4 h5 =
-    let later = bytes_later f a b d e g h in
-    grind (arith, later.0, later.1, later.2, later.3, later.4, (width_tells f a b d e g h).0)
+zero_ends f a b d e g h s some h1 h2 h3 h4 h5 = grind (arith, nat_tests, bytes_later, width_tells)
 
 -- A character that begins before a zero ends at or before it.
 pub ends_by_zero : (f : Flavor) (bytes : List ℕ) (i m : ℕ) → i < m → get_or bytes m 0 ≡ 0 → i + width_at f bytes i ≤ m

@@ -43,9 +43,7 @@ module _ (f : Flavor) (bytes : List ℕ) (at n : ℕ) where
 
   pub formed : (i : ℕ) →
       Forms (w i) (one_at f (get_or bytes (at + i) 0)) (is_null_at f bytes (at + i)) (is_two_at bytes (at + i)) (is_three_at bytes (at + i)) (is_pair_at f bytes (at + i))
-  formed i =
-      let b = λ (k : ℕ). get_or bytes k 0 in
-      forms f (b (at + i)) (b (at + i + 1)) (b (at + i + 2)) (b (at + i + 3)) (b (at + i + 4)) (b (at + i + 5))
+  formed i = grind (arith, nat_tests, forms)
 
   by_three : (i : ℕ) → w i ≡ 3 → is_three_at bytes (at + i) ≡ true
   by_three i = (width_tells f (get_or bytes (at + i) 0) _ _ _ _ _).4
@@ -99,9 +97,7 @@ module _ (f : Flavor) (bytes : List ℕ) (at n : ℕ) where
   marked test i set = let parts = and_parts (ltb i n) (test (at + i)) set in (ltb-true i n parts.0, parts.1)
 
   marked_after : (k : ℕ) (test : ℕ → Bool) (i : ℕ) → after k test i ≡ true → (k ≤ i) × (test (i - k) ≡ true)
-  marked_after k test i set =
-      let parts = and_parts (leb k i) (test (i - k)) (and_parts (ltb i 64) (leb k i && test (i - k)) set).1 in
-      (leb-true k i parts.0, parts.1)
+  marked_after k test i set = grind (arith, nat_tests, and_parts, leb-true)
 
   from_threes : (i : ℕ) → threes_by i ≡ true → Part 3 i
   from_threes i set =
@@ -146,19 +142,10 @@ module _ (f : Flavor) (bytes : List ℕ) (at n : ℕ) where
   mark test i inside passes = and_from (ltb i n) (test (at + i)) (lt-ltb i n inside) passes
 
   mark_after : (k : ℕ) (test : ℕ → Bool) (i j : ℕ) → i ≡ j + k → i < 64 → test j ≡ true → after k test i ≡ true
-  mark_after k test i j there small passes =
-      let place : i - k ≡ j = omega (arith, there) in
-      and_from (ltb i 64) (leb k i && test (i - k)) (lt-ltb i 64 small)
-      (and_from (leb k i) (test (i - k)) (le-leb k i (omega arith)) (ap test place ∙ passes))
+  mark_after k test i j there small passes = grind (arith, nat_tests, and_from, lt-ltb, le-leb)
 
   to_threes : (i : ℕ) → i < n → 3 ≤ w i → threes_by i ≡ true
-  to_threes i inside wide =
-      let three = first (is_three_at bytes) in
-      let pair = first (is_pair_at f bytes) in
-      or_left (three i || pair i) (after 3 pair i)
-      (⊎_elim (λ (low : w i ≤ 3). or_left (three i) (pair i) (mark (is_three_at bytes) i inside (by_three i (omega arith))))
-      (λ (six : w i ≡ 6). or_right (three i) (pair i) (mark (is_pair_at f bytes) i inside (eq-eqb (w i) 6 six)))
-      (width_bounds f bytes (at + i)))
+  to_threes i inside wide = grind (arith, nat_tests, or_left, mark, by_three, or_right, eq-eqb, width_bounds)
 
   abbrev two : ℕ → Bool
   two = first (is_two_at bytes)
@@ -177,12 +164,7 @@ module _ (f : Flavor) (bytes : List ℕ) (at n : ℕ) where
 
   -- The second three bytes of a surrogate pair are marked.
   threes_later : (j i : ℕ) → j < n → 4 ≤ w j → i ≡ j + 3 → i < 64 → threes_by i ≡ true
-  threes_later j i inside wide there small =
-      let three = first (is_three_at bytes) in
-      let pair = first (is_pair_at f bytes) in
-      let six : w j ≡ 6 = omega (arith, width_bounds f bytes (at + j)) in
-      or_right (three i || pair i) (after 3 pair i)
-      (mark_after 3 pair i j there small (mark (is_pair_at f bytes) j inside (eq-eqb (w j) 6 six)))
+  threes_later j i inside wide there small = grind (arith, nat_tests, width_bounds, or_right, mark_after, mark, eq-eqb)
 
   from_begin : (i : ℕ) → begins_by i ≡ true → covered_by i ≡ true
   from_begin i set = or_left (begins_by i || after 1 begins_by i) (after 2 threes_by i) (or_left (begins_by i) (after 1 begins_by i) set)

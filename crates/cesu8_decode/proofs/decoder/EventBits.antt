@@ -43,9 +43,7 @@ module _ (n k : ℕ) (lowest : IsLowest n k) where
 
   -- n & (n - 1) clears bit k.
   pub cleared : bit_at (bit_and n (n - 1)) k ≡ 0
-  cleared =
-      let there = ap (λ m. bit_at m k) less ∙ bit_at_cat_low above (1 + k) (2 ^ k - 1) k (omega arith) ∙ bit_at_ones_above k k (omega arith) in
-      bit_at_and n (n - 1) k ∙ omega (arith, there)
+  cleared = grind (arith, less, bit_at_cat_low, bit_at_ones_above, bit_at_and)
 
   -- n & (n - 1) leaves the other bits unchanged.
   pub others_stay : (i : ℕ) → i ≢ k → bit_at (bit_and n (n - 1)) i ≡ bit_at n i
@@ -74,10 +72,7 @@ NoEvent changing ill i = (bit_at changing i ≡ 0) × (bit_at ill i ≡ 0)
 
 -- A bit that is not 1 is 0.
 pub unset : (n i : ℕ) → (bit_at n i ≡ 1 → ⊥) → bit_at n i ≡ 0
-unset n i none =
-    ⊎_elim (λ (zero : bit_at n i ≡ 0). zero)
-    (λ (some : ¬ (bit_at n i ≡ 0)). absurd (none (omega (arith, some, bit_at-lt n i))))
-    (cases_eq (bit_at n i) 0)
+unset n i none = grind (arith, bit_at-lt)
 
 module _ (changing ill read events : ℕ) (are : AreEvents changing ill read events) where
   -- No ill-formed byte precedes the next event.
@@ -171,12 +166,7 @@ module _ (changing ill : ℕ) (fits : ill < 2 ^ 64) where
 
   -- An event that is no bit of `changing` is one of `ill`, and the bit before it is not set.
   event_ill : (i : ℕ) → bit_at events i ≡ 1 → (bit_at changing i ≡ 1) ⊎ ((bit_at ill i ≡ 1) × (bit_at shifted i ≡ 0))
-  event_ill i set =
-      ⊎_elim (λ (one : bit_at changing i ≡ 1). inl one)
-      (λ (other : ¬ (bit_at changing i ≡ 1)).
-      let is = event_bit i in
-      inr (omega (arith, set, other, is, bit_at-lt changing i, bit_at-lt ill i), omega (arith, set, other, is, bit_at-lt changing i)))
-      (cases_eq (bit_at changing i) 1)
+  event_ill i set = grind (arith, event_bit, bit_at-lt)
 
   pub all_events : AreEvents changing ill 0 events
   all_events = record {

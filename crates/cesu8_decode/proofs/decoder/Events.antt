@@ -244,8 +244,4 @@ not_false false e = absurd (true≢false e)
 
 -- The test of a bit decides whether it is set.
 pub bit_tested : (n i : ℕ) → (not (eqb (bit_and (n / 2 ^ i) 1) 0) ≡ true → bit_at n i ≡ 1) × (not (eqb (bit_and (n / 2 ^ i) 1) 0) ≡ false → bit_at n i ≡ 0)
-bit_tested n i =
-    let is = shr_and_one n i in (
-      λ set. omega (arith, bit_at-lt n i, is, λ (none : bit_at n i ≡ 0). true≢false (sym set ∙ ap (λ b. not (eqb b 0)) (is ∙ none))),
-      λ unset. eqb-true (bit_at n i) 0 (sym (ap (λ b. eqb b 0) is) ∙ not_false (eqb (bit_and (n / 2 ^ i) 1) 0) unset),
-    )
+bit_tested n i = grind (arith, shr_and_one, bit_at-lt, eqb-true, not_false)

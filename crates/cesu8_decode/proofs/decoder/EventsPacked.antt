@@ -198,10 +198,7 @@ module _ (f : Flavor) (bytes : List ℕ) (at : ℕ) (window : Window) (is : IsWi
       null_unset is (at + i) (omega arith) (omega arith) (ap (bit_at window.nulls) there ∙ unset)
 
   next_bit : (i : ℕ) → i < 64 → bit_at window.nulls i ≡ 0 → bit_at left_out (i + 1) ≡ 0
-  next_bit i small unset =
-      ⊎_elim (λ (inside : i + 1 < 64). shifted_next window.nulls (i + 1) i inside refl ∙ unset)
-      (λ (past : 64 ≤ i + 1). bit_at_above left_out 64 (i + 1) (omega arith) past)
-      (cases_lt (i + 1) 64)
+  next_bit i small unset = grind (arith, nat_tests, shifted_next, bit_at_above)
 
   stays_packed : (i : ℕ) → bit_at left_out i ≡ 0 → byte i ≢ 0xC0 → packed i ≡ byte i ∷ []
   stays_packed i unset other = rw (unset, ne_eqb (byte i) 0xC0 other) refl

@@ -74,9 +74,7 @@ without_bits {a = a} {b = b} {p = p} {q = q} small_a small_b h k = record {
 }
 
 pub bit_shifted : (a k i : ℕ) → bit_at (a / 2 ^ k) i ≡ bit_at a (i + k)
-bit_shifted a k i =
-    let steps : 2 ^ k * 2 ^ i ≡ 2 ^ (i + k) = sym (pow-add 2 k i) ∙ ap (λ n. 2 ^ n) (add_comm k i) in
-    ap (λ n. n % 2) (div-div-eq-div-mul a (2 ^ k) (2 ^ i) ∙ ap (λ n. a / n) steps)
+bit_shifted a k i = grind (arith, pow-add, add_comm, div-div-eq-div-mul)
 
 -- From an offset on, as many bits are set in a row as `trailing_ones` returns.
 module _ (word next : ℕ) (fits : word < 2 ^ 64) where
@@ -150,9 +148,7 @@ first_have_bits n = record {
 
 -- The power of two as the code computes it.
 pub power_less_one : (n : ℕ) → n < 64 → 1 * 2 ^ n % 2 ^ 64 - 1 ≡ 2 ^ n - 1
-power_less_one n few =
-    let small : 2 ^ n < 2 ^ 64 = pow-lt few in
-    ap (λ m. m - 1) (ap (λ m. m % 18446744073709551616) (one-mul (2 ^ n)) ∙ mod-eq_of_lt small)
+power_less_one n few = grind (arith, pow-lt, one-mul, mod-eq_of_lt)
 
 -- A test can be replaced by one that agrees with it.
 pub told_by : {a : ℕ} {p : ℕ → Bool} (q : ℕ → Bool) → ((i : ℕ) → p i ≡ q i) → HasBits a p → HasBits a q
@@ -190,12 +186,7 @@ class_bits class xs none is = told_by (λ i. class (get_or xs i 0)) same (class_
 
 -- A test of n offsets, by index.
 range_tested : (test : ℕ → Bool) (at n i : ℕ) → get_or (map test (range_with_len at n)) i false ≡ (ltb i n && test (at + i))
-range_tested test at n i =
-    ⊎_elim (λ (inside : i < n). get_or-map-range_with_len test at n i (at + i) false inside refl ∙ ap (λ t. t && test (at + i)) (sym (lt-ltb i n inside)))
-    (λ (past : n ≤ i).
-    get_or_past (map test (range_with_len at n)) i false (omega (arith, length-map-range_with_len test at n))
-    ∙ ap (λ t. t && test (at + i)) (sym (le-ltb i n past)))
-    (cases_lt i n)
+range_tested test at n i = grind (arith, get_or-map-range_with_len, lt-ltb, get_or_past, length-map-range_with_len, le-ltb)
 
 pub marks_from : (test : ℕ → Bool) (at n : ℕ) {a : ℕ} → HasBits a (λ i. ltb i n && test (at + i)) →
     a ≡ mask_l (map test (range_with_len at n))
@@ -265,9 +256,7 @@ none_set {a = a} {p = p} is h i = unset (p i) (bit_at a i) (h.bit i) (ap (λ n. 
 
 -- Each lane is less than 100 (hexadecimal), and so are the zeros after the lanes.
 pub lanes_below : (xs : List ℕ) → Each1 (Fits w8) xs → (i : ℕ) → get_or xs i 0 < 256
-lanes_below xs fit i =
-    ⊎_elim (λ (inside : i < length xs). (Each1-get_or (Fits w8) xs i 0 inside fit).fits)
-    (λ (past : length xs ≤ i). omega (arith, get_or_past xs i 0 past)) (cases_lt i (length xs))
+lanes_below xs fit i = grind (arith, Each1-get_or, get_or_past)
 
 -- A shift of each lane makes a lower bit the highest.
 pub shifted_bits : (xs : List ℕ) (n below : ℕ) {a : ℕ} → length xs ≡ n →

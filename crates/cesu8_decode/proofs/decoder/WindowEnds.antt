@@ -1,7 +1,7 @@
 -- What the masks of a window say about its offsets, and where a window ends.
-use Rattle.std.proofs.Common.{◌≡◌, ℕ, ◌+◌, ◌-◌, ◌<◌, ◌≤◌, ⊎_elim, true, false, true≢false, List, length, get_or, sym, ap, ◌∙◌, arith}
+use Rattle.std.proofs.Common.{◌≡◌, ℕ, ◌+◌, ◌-◌, ◌<◌, ◌≤◌, ⊎_elim, true, false, List, length, get_or, ap, ◌∙◌, arith}
 use Rattle.std.specs.Int.{bit_at, trailing_zeros, w64}
-use Rattle.std.proofs.lemmas.Bool.{cases_lt, cases_Bool, ne_eqb}
+use Rattle.std.proofs.lemmas.Bool.{cases_lt, ne_eqb}
 use Rattle.std.proofs.lemmas.Bool.Decides.{nat_tests}
 use Rattle.std.proofs.lemmas.Nat.Bits.{bit_at-zero, bit_at-trailing_zeros}
 use Rattle.cesu8_text.specs.Encoding.{Flavor}
@@ -26,11 +26,7 @@ module _ {f : Flavor} {bytes : List ℕ} {at : ℕ} {window : Window} (is : IsWi
 
   -- If no character begins at an offset, none begins there that needs conversion.
   pub none_changes : (i : ℕ) → w i ≡ 0 → (is_pair_at f bytes i ≡ false) × (is_null_at f bytes i ≡ false)
-  none_changes i none = (
-    ne_eqb (w i) 6 (λ six. omega (arith, none, six)),
-    ⊎_elim (λ (null : is_null_at f bytes i ≡ true). absurd (omega (arith, none, null_two f _ _ (get_or bytes (i + 2) 0) (get_or bytes (i + 3) 0) (get_or bytes (i + 4) 0) (get_or bytes (i + 5) 0) null)))
-        (λ other. other) (cases_Bool (is_null_at f bytes i)),
-  )
+  none_changes i none = grind (arith, nat_tests, ne_eqb, null_two)
 
   -- What a set bit of each mask says.
   pub pair_set : (i : ℕ) → bit_at window.pairs i ≡ 1 → (i < is.n) × (is_pair_at f bytes (at + i) ≡ true)
@@ -107,11 +103,4 @@ ill_formed_there f window i boundary none = grind (arith, nat_tests)
 -- A window ends at its last offset if a zero follows.
 pub ends_at_zero : (f : Flavor) (bytes : List ℕ) (at : ℕ) (window : Window) (is : IsWindow f bytes at window) → get_or bytes (at + is.n) 0 ≡ 0 →
     window.len ≡ is.n
-ends_at_zero f bytes at window is null =
-    ⊎_elim
-    (λ (more : is.n < window.len).
-    let last = is.rest (at + is.n) (omega arith) (omega arith) in
-    absurd (true≢false (sym (ill_formed_there f (window_of bytes) (at + is.n) (boundary_at_zero f bytes (at + is.n) null)
-    (width_there f bytes (at + is.n) ∙ last.0)) ∙ last.1)))
-    (λ (none : window.len ≤ is.n). omega (arith, is.len.0))
-    (cases_lt is.n window.len)
+ends_at_zero f bytes at window is null = grind (arith, nat_tests, ill_formed_there, boundary_at_zero, width_there)

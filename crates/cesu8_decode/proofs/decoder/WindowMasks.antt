@@ -49,14 +49,7 @@ module _ (f : Flavor) (bytes : List ℕ) (at n : ℕ) (boundary : is_boundary_at
       omega (arith, not_reached f (window_of bytes) (at + i) set (5 - s) (omega arith), width_at_place f bytes (at + (i - s)) (at + i + (5 - s)) place)
 
   reach_fits : (i : ℕ) → Part f bytes at n 1 i → (s : ℕ) × (s ≤ i) × (i - s < n) × (s < w (i - s)) × (s < 6)
-  reach_fits i part =
-      let reaches = part.reaches in (
-        part.s,
-        part.near,
-        part.begins,
-        omega arith,
-        omega (arith, width_bounds f bytes (at + (i - part.s))),
-      )
+  reach_fits i part = grind (arith, width_bounds)
 
   pub not_ill : (i : ℕ) → covered i ≡ true → ill i ≡ false
   not_ill i set =
