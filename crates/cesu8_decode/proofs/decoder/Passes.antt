@@ -103,10 +103,7 @@ module _ (f : Flavor) (which : Strictness) (bytes : List ℕ) where
   pub reads_on : (before after : Pass) (old new start text : List ℕ) (is_refused : Bool) → GoesOn f which bytes before after old new → before.end ≡ 0 →
       after.is_refused ≡ is_refused → IsDecoded f which (window_of bytes) 0 before.read start text false →
       IsDecoded f which (window_of bytes) 0 after.read start (text ++ take after.end new) is_refused
-  reads_on before after old new start text is_refused more empty refused so_far =
-      let none : text ≡ text ++ take before.end old = sym (ap (λ n. text ++ take n old) empty ∙ append-nil text) in
-      subst (IsDecoded f which (window_of bytes) 0 after.read start (text ++ take after.end new)) refused
-      (more.text start text (subst (λ bs. IsDecoded f which (window_of bytes) 0 before.read start bs false) none so_far))
+  reads_on before after old new start text is_refused more empty refused so_far = grind (arith, append-nil)
 
 -- A text that is written is the result of decoding that does not fail.
 pub reads_text : {E : Type 0} (f : Flavor) (which : Strictness) (bytes old new : List ℕ) (end : ℕ) → WritesText f which bytes end old new →
