@@ -25,7 +25,7 @@ use super::decode::valid::valid_up_to_other;
 use super::kit::is_utf8_by_parts;
 use super::memory::{AllocError, Global, Part};
 use super::{decode, encode};
-use crate::{DecodingError, SliceError};
+use crate::{DecodingError, SliceError, short};
 
 /// The length of a text fits no `usize`. Memory that is refused ends the process before.
 #[cold]
@@ -61,7 +61,13 @@ fn encoded_len<F: Flavor>(text: &str) -> usize {
 
 #[cfg_attr(not(debug_assertions), inline(always))]
 fn encoded<F: Flavor>(text: &str) -> Cow<'_, [u8]> {
-    if !contains_changed::<F>(text.as_bytes()) {
+    // The test of few bytes was inlined into the caller, and here it takes less than a call.
+    let is_unchanged = match (text.len() <= FEW, F::has_long_null()) {
+        (true, true) => short::is_unchanged::<true>(text),
+        (true, false) => short::is_unchanged::<false>(text),
+        _ => !contains_changed::<F>(text.as_bytes()),
+    };
+    if is_unchanged {
         return Cow::Borrowed(text.as_bytes());
     }
     match encode::encode::<F>(Global, text) {
@@ -127,28 +133,30 @@ fn strict<F: Flavor, A: Accepts, const LENIENT: bool>(
 ) -> Result<Cow<'_, str>, DecodingError> {
     match front_unless_unchanged::<F, A>(bytes) {
         None => Ok(Cow::Borrowed(known_text(bytes))),
-        Some(front) => strict_other::<F, LENIENT>(bytes, front),
+        Some(front) => strict_other::<F>(bytes, front, LENIENT),
     }
 }
 
-/// Decodes strictly what is not unchanged. It is not inlined, so that unchanged input has few
-/// registers to save.
+/// Decodes strictly what is not unchanged. It is one function for both modes, and not inlined, so that
+/// unchanged input has few registers to save.
 #[cfg_attr(not(debug_assertions), inline(always))]
-fn strict_other<F: Flavor, const LENIENT: bool>(
+fn strict_other<F: Flavor>(
     bytes: &[u8],
     front: FoundFront,
+    is_lenient: bool,
 ) -> Result<Cow<'_, str>, DecodingError> {
     at_level! {
         #[inline(never)] {
-            fn at_level<F: Flavor, const LENIENT: bool>(
+            fn at_level<F: Flavor>(
                 bytes: &[u8],
                 front: FoundFront,
+                is_lenient: bool,
             ) -> Result<Cow<'_, str>, DecodingError> {
                 // Of few bytes, none is ill-formed if it is known what changes.
                 if front.changed != 0 {
                     return strict_few::<F>(bytes, front);
                 }
-                if LENIENT && is_utf8_after(front, bytes) {
+                if is_lenient && is_utf8_after(front, bytes) {
                     return Ok(Cow::Borrowed(known_text(bytes)));
                 }
                 if bytes.len() <= FEW {
@@ -156,10 +164,11 @@ fn strict_other<F: Flavor, const LENIENT: bool>(
                 }
                 strict_many::<F>(bytes, front)
             }
-        } at_level::<F, LENIENT>(bytes, front)
+        } at_level::<F>(bytes, front, is_lenient)
     }
 }
 
+/// Decodes strictly at most 64 bytes, of which some change.
 #[cfg_attr(not(debug_assertions), inline(always))]
 fn strict_few<F: Flavor>(bytes: &[u8], front: FoundFront) -> Result<Cow<'_, str>, DecodingError> {
     let mut written = [0; FEW_STRICT];
@@ -171,7 +180,7 @@ fn strict_few<F: Flavor>(bytes: &[u8], front: FoundFront) -> Result<Cow<'_, str>
     Ok(Cow::Owned(known_string(text)))
 }
 
-/// The same, for more than 64 bytes. It is one function for all calls, since it is long.
+/// Decodes strictly more than 64 bytes. It is not inlined, so that fewer have few registers to save.
 #[cfg_attr(not(debug_assertions), inline(always))]
 fn strict_many<F: Flavor>(bytes: &[u8], front: FoundFront) -> Result<Cow<'_, str>, DecodingError> {
     at_level! {
