@@ -592,18 +592,20 @@ class Eraser:
         return re.sub(r"\n{3,}", "\n\n", text).lstrip("\n")
 
     def tables(self, text, module):
-        """Makes constants of arrays static if each use of them in the file borrows them.
+        """Makes constants of arrays, written or expanded from a macro, static if each use of them in
+        the file borrows them.
 
         `table!` of a level defines the static, or imports that of another level, for which modules
         are visible in the crate.
         """
-        for name in re.findall(r"^const (\w+): [^=]*= \[", text, re.M):
+        array = r"= (?:\[|\w+!\()"
+        for name in re.findall(rf"^const (\w+): [^=]*{array}", text, re.M):
             code = re.sub(r"//[^\n]*", "", text)
             uses = len(re.findall(rf"\b{name}\b", code)) - 1
             if uses == len(re.findall(rf"&{name}\b", code)):
                 self.use("table")
                 text = re.sub(
-                    rf"((?:^(?:///|#\[).*\n)*)^const ({name}: [^=]*=[^;]*\[[^=]*;)$",
+                    rf"((?:^(?:///|#\[).*\n)*)^const ({name}: [^=]*{array}[^=]*?;)$",
                     rf"table! {{ ({module})\n\1static \2\n}}",
                     text,
                     flags=re.M,

@@ -49,7 +49,7 @@ source "$top/tests/run_examples.sh" || exit 2
 # Copies the tree, with what is proved here, to a repository with one commit: `copy_tree FOLDER`.
 copy_tree() {
     local library
-    if [[ ! -f $crate/out/libcesu8_static.a ]]; then
+    if [[ ! -f $crate/out/libcesu8_c.a ]]; then
         (cd "$crate" && quietly rt lib ${PROOF_JOBS:+--jobs "$PROOF_JOBS"}) || exit 2
     fi
     mkdir "$1" || exit 2

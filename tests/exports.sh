@@ -121,6 +121,6 @@ if can_build 'the header in C++ by clang' clang++ -fsyntax-only "$scratch/probe.
 fi
 build_library
 if can_build_c 'the calls from C'; then
-    call_exports "$crate/out/libcesu8_static.a"
+    call_exports "$crate/out/libcesu8_c.a"
 fi
 ((failed == 0))

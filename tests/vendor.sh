@@ -1,6 +1,4 @@
-mkdir -p "$scratch/own/crates" "$scratch/own/release" || exit 2
-cp "$top/release/vendor.sh" "$scratch/own/release" || exit 2
-cp "$top"/{crates.txt,VERSION,LICENSE-APACHE,LICENSE-MIT} "$scratch/own" || exit 2#!/usr/bin/env bash
+#!/usr/bin/env bash
 # Makes a new repository with a copy of the libraries by vendor.sh and two crates, one with a proof that
 # cites a clause and a law, and proves and runs them. It checks that the copy has what it needs and no
 # more, and of that no tests, that git takes nothing that `rt` made, and that a second copy changes
@@ -211,8 +209,9 @@ refuses 'a link to a copy' "$top/release/vendor.sh" "$scratch/linked"
 [[ -f $scratch/flat/simd_cesu8/src/own.rt ]] || wrong 'vendor.sh writes through a link'
 
 # Its own repository, by its name and by a link: here one whose libraries are copies themselves.
-mkdir -p "$scratch/own/crates" || exit 2
-cp "$top"/{vendor.sh,crates.txt,VERSION,LICENSE-APACHE,LICENSE-MIT} "$scratch/own" || exit 2
+mkdir -p "$scratch/own/crates" "$scratch/own/release" || exit 2
+cp "$top/release/vendor.sh" "$scratch/own/release" || exit 2
+cp "$top"/{crates.txt,VERSION,LICENSE-APACHE,LICENSE-MIT} "$scratch/own" || exit 2
 cp -R "${libraries[@]/#/$scratch/flat/}" "$scratch/own/crates" || exit 2
 ln -s own "$scratch/link" || exit 2
 refuses 'its own repository' "$scratch/own/release/vendor.sh" "$scratch/own"

@@ -62,7 +62,7 @@ for level in $levels; do
         exit 1
     fi
     mkdir "$scratch/$level"
-    (cd "$scratch/$level" && ar x "$crate/out/libcesu8_static.a")
+    (cd "$scratch/$level" && ar x "$crate/out/libcesu8_c.a")
     ld -r -o "$scratch/$level.o" "$scratch/$level"/*.o
     # The level is appended to the name of each export. Functions that the code imports keep theirs.
     nm -g --defined-only "$scratch/$level.o" |

@@ -7,6 +7,7 @@
 //! - `lengths`, `order`: the length and the order of encodings, without encoding
 //! - `pairs`: surrogate pairs
 //! - `writing`: copying, packing and appending bytes
+//! - `words`: searches by words of eight bytes
 //! - `utf8`: bytes that are known to be UTF-8 as a `&str` or a `String`
 //!
 //! This crate is internal and may change at any time. `simd_cesu8` has the public calls.
@@ -21,6 +22,7 @@ pub mod order;
 pub mod pairs;
 pub mod strictness;
 pub mod utf8;
+pub mod words;
 pub mod writing;
 
 /// The bytes of a block, the lanes of a `u8x32`. Types, shuffles and proofs assume this 32 too.

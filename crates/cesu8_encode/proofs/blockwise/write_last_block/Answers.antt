@@ -1,7 +1,7 @@
 use Rattle.std.proofs.Common.{◌≡◌, ◌+◌, ◌-◌, subst, arith, length}
 use Rattle.cesu8_encode.specs.EncodedOffsets.{IsWritten}
 use Rattle.cesu8_encode.proofs.encoder.EncodedWindows.{encoded_bytes_last, room_behind, written_behind}
-use Rattle.cesu8_encode.proofs.blockwise.write_last.Goals as goal
+use Rattle.cesu8_encode.proofs.blockwise.write_last_block.Goals as goal
 
 pub write_block-requires-clause-room : goal.write_block-requires-clause-room
 write_block-requires-clause-room g c =

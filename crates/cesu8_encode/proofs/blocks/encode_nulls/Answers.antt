@@ -1,7 +1,7 @@
 use Rattle.std.proofs.Common.{arith}
 use Rattle.cesu8_encode.proofs.encoder.EncodedWindows.{prefix_long}
 use Rattle.cesu8_encode.proofs.encoder.LowBlocks.{low_packed}
-use Rattle.cesu8_encode.proofs.blocks.write_nulls.Goals as goal
+use Rattle.cesu8_encode.proofs.blocks.encode_nulls.Goals as goal
 
 pub write_lanes-requires-clause-room : goal.write_lanes-requires-clause-room
 write_lanes-requires-clause-room g c =

@@ -2,8 +2,8 @@ use Rattle.std.proofs.Common.{◌≡◌, not, length, refl, sym, ap, ◌∙◌, 
 use Rattle.std.proofs.lemmas.Bool.{eqb-false}
 use mathlib.Core.Logic.Iff.{trans}
 use Rattle.cesu8_bytes.proofs.lists.Chunks.{nothing_left}
-use Rattle.cesu8_bytes.proofs.implementation.simd.any_by_widths.Goals as goal
-use Rattle.cesu8_bytes.proofs.implementation.simd.any_by_widths.Goals.{then-not-is_empty, else-not-is_empty}
+use Rattle.cesu8_bytes.proofs.lanes.widths.any_by_widths.Goals as goal
+use Rattle.cesu8_bytes.proofs.lanes.widths.any_by_widths.Goals.{then-not-is_empty, else-not-is_empty}
 
 pub returns-in_default-left_by-3 : goal.returns-in_default-left_by-3
 returns-in_default-left_by-3 g c _ =

@@ -1,6 +1,6 @@
 use mathlib.Core.Logic.Iff.{trans}
 use Rattle.cesu8_bytes.proofs.lists.Words.{four_test, not_zero}
-use Rattle.cesu8_bytes.proofs.implementation.word.contains_four.Goals as goal
+use Rattle.cesu8_bytes.proofs.words.contains_four.Goals as goal
 
 pub returns : goal.returns
 returns c = trans (not_zero c.zero_marks.result) (trans c.zero_marks.ensures (four_test c.args.word c.ranges.word.fits))

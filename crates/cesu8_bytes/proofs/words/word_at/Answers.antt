@@ -4,7 +4,7 @@ use Rattle.std.proofs.lemmas.List.{take-append-drop}
 use Rattle.std.proofs.lemmas.Nat.{le_bytes_8}
 use Rattle.std.proofs.lemmas.Simd.{length-chunk}
 use Rattle.cesu8_bytes.proofs.lists.Prefixes.{word_fits}
-use Rattle.cesu8_bytes.proofs.implementation.word.word_at.Goals as goal
+use Rattle.cesu8_bytes.proofs.words.word_at.Goals as goal
 
 pub returns : goal.returns
 returns c =

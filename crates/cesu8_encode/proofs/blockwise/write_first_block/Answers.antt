@@ -1,6 +1,6 @@
 use Rattle.std.proofs.Common.{◌-◌, ◌∷◌, ap, ◌∙◌, arith, length}
 use Rattle.cesu8_encode.proofs.encoder.EncodedWindows.{encoded_bytes_first, room_for_parts}
-use Rattle.cesu8_encode.proofs.blockwise.write_first.Goals as goal
+use Rattle.cesu8_encode.proofs.blockwise.write_first_block.Goals as goal
 
 pub write_block-requires-clause-room : goal.write_block-requires-clause-room
 write_block-requires-clause-room g c =

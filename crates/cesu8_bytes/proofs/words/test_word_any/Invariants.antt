@@ -1,7 +1,7 @@
 use Rattle.std.proofs.Common.{ℕ, Bool, ◌-◌}
 use Rattle.cesu8_bytes.specs.Kernels.{FindsInWords}
 use Rattle.cesu8_bytes.proofs.lists.EightElements.{NoneUpTo}
-use Rattle.cesu8_bytes.proofs.implementation.word.test_word_any.Given as goal
+use Rattle.cesu8_bytes.proofs.words.test_word_any.Given as goal
 
 abbrev pub invariant-loop-offset : goal.invariant-loop-offset
 invariant-loop-offset g l = (class : ℕ → Bool) → FindsInWords g.T.Fn l.test class →

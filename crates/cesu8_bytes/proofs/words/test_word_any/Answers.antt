@@ -2,7 +2,7 @@ use Rattle.std.proofs.Common.{arith, refl}
 use Rattle.std.proofs.lemmas.Bool.{iff_false, true_from_ne_false}
 use Rattle.cesu8_bytes.proofs.lists.Words.{tested}
 use Rattle.cesu8_bytes.proofs.lists.EightElements.{of_eight, none_further, none_at_all}
-use Rattle.cesu8_bytes.proofs.implementation.word.test_word_any.Goals as goal
+use Rattle.cesu8_bytes.proofs.words.test_word_any.Goals as goal
 
 pub loop-offset-init : goal.loop-offset-init
 loop-offset-init g c class tests =

@@ -1,6 +1,6 @@
 use Rattle.std.proofs.Common.{IsTrue, arith}
 use Rattle.cesu8_bytes.proofs.lists.Chunks.{found_in_chunks, left_by_chunks}
-use Rattle.cesu8_bytes.proofs.implementation.simd.left_by.Goals as goal
+use Rattle.cesu8_bytes.proofs.lanes.widths.left_by.Goals as goal
 
 pub returns-then-any_in_chunks-clause-found : goal.returns-then-any_in_chunks-clause-found
 returns-then-any_in_chunks-clause-found g c =

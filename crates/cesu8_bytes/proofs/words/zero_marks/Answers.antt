@@ -1,5 +1,5 @@
 use Rattle.cesu8_bytes.proofs.lists.Words.{zero_test}
-use Rattle.cesu8_bytes.proofs.implementation.word.zero_marks.Goals as goal
+use Rattle.cesu8_bytes.proofs.words.zero_marks.Goals as goal
 
 pub returns : goal.returns
 returns c = zero_test c.args.word c.ranges.word.fits

@@ -1,0 +1,78 @@
+//! Searches for a byte of a class by vectors of each width, for the kernels of
+//! `implementation::simd`.
+
+ghost use Rattle.std.specs.Prelude.{◌≡◌, ◌≤◌, ◌<◌, ◌↔◌, IsTrue, IfSome, IfNone, length};
+ghost use Rattle.cesu8_text.specs.Class.{is_four, is_null_four};
+ghost use Rattle.cesu8_bytes.specs.Kernels.{AnyIn, MayTest, Finds};
+
+use super::class::{Either, FourByteLead, LANES, Null};
+use super::groups::InGroups;
+use super::search::any_in_chunks;
+
+/// Returns whether some byte is F0 to F7 (hexadecimal), with `fallback` for a single byte that is
+/// left over.
+#[inline(always)]
+pub fn lanes_four<F: Fn(&[u8]) -> bool>(value: &[u8], fallback: F) -> bool
+    requires { MayTest (λ len. len ≡ 1) F.Fn fallback }
+    ensures { Finds (λ len. len ≡ 1) F.Fn fallback is_four
+        → IsTrue result ↔ AnyIn is_four value.now }
+{
+    any_by_widths::<FourByteLead, F>(value, fallback)
+}
+
+/// Returns whether some byte is 00, or F0 to F7 (hexadecimal), with `fallback` for a single byte
+/// that is left over.
+#[inline(always)]
+pub fn lanes_null_four<F: Fn(&[u8]) -> bool>(value: &[u8], fallback: F) -> bool
+    requires { MayTest (λ len. len ≡ 1) F.Fn fallback }
+    ensures { Finds (λ len. len ≡ 1) F.Fn fallback is_null_four
+        → IsTrue result ↔ AnyIn is_null_four value.now }
+{
+    any_by_widths::<Either<Null, FourByteLead>, F>(value, fallback)
+}
+
+/// Returns whether some byte is in a class. Each width tests whole chunks of what the wider ones
+/// left over, and `fallback` tests a single byte at the end.
+#[inline(always)]
+fn any_by_widths<C, F: Fn(&[u8]) -> bool>(value: &[u8], fallback: F) -> bool
+where
+    C: InGroups<64> + InGroups<32> + InGroups<16> + InGroups<8> + InGroups<4> + InGroups<2>,
+    requires { MayTest (λ len. len ≡ 1) F.Fn fallback }
+    ensures { Finds (λ len. len ≡ 1) F.Fn fallback C.class
+        → IsTrue result ↔ AnyIn C.class value.now }
+{
+    let Some(rest) = left_by::<C, 64>(value) else {
+        return true;
+    };
+    let Some(rest) = left_by::<C, 32>(rest) else {
+        return true;
+    };
+    let Some(rest) = left_by::<C, 16>(rest) else {
+        return true;
+    };
+    let Some(rest) = left_by::<C, 8>(rest) else {
+        return true;
+    };
+    let Some(rest) = left_by::<C, 4>(rest) else {
+        return true;
+    };
+    let Some(rest) = left_by::<C, 2>(rest) else {
+        return true;
+    };
+    !rest.is_empty() && fallback(rest)
+}
+
+/// Returns the bytes after the whole chunks, or `None` if some byte of a chunk is in the class.
+#[inline(always)]
+fn left_by<C: InGroups<N>, const N: usize>(bytes: &[u8]) -> Option<&[u8]>
+    requires { (0 < N) × (N ≤ LANES) }
+    ensures left { IfSome result (λ rest. (length rest.now < N)
+        × (AnyIn C.class rest.now ↔ AnyIn C.class bytes.now)) }
+    ensures found { IfNone result (AnyIn C.class bytes.now) }
+{
+    let (chunks, rest) = bytes.as_chunks::<N>();
+    if any_in_chunks::<C, N>(chunks) {
+        return None;
+    }
+    Some(rest)
+}
