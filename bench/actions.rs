@@ -1,4 +1,4 @@
-//! The calls, and the two encodings.
+//! The calls that are measured, and the two encodings.
 
 #[derive(Clone, Copy, PartialEq, Eq, PartialOrd, Ord)]
 pub enum Flavor {

@@ -12,7 +12,7 @@ pub fn heading(action: Action) -> String {
     format!("`{}` on 16,380 bytes, in GB/s", action.title())
 }
 
-/// The row is left out where the call has to refuse the input.
+/// Adds a row for these inputs, without a cell for an encoding in which the call must reject them.
 fn add(grid: &mut Grid, action: Action, set: &Set) -> Result<(), String> {
     for flavor in FLAVORS {
         let inputs = Inputs::one(set.input);
@@ -40,7 +40,7 @@ pub fn grids(codecs: &[Codec]) -> Result<Vec<Grid<'_>>, String> {
     grids.into_iter().collect()
 }
 
-/// A plain copy, a call that does nothing, and `str::from_utf8` on the texts.
+/// What the calls are compared with: a plain copy, a call that does nothing, and `str::from_utf8`.
 pub fn beside() -> Beside {
     let sets = sets();
     let utf8 = sets.iter().filter(|set| set.is_utf8());

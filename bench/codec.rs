@@ -1,4 +1,4 @@
-//! The calls of one codec: the one that is linked, and those of shared objects.
+//! The calls of a codec: this library, which is linked, or one in a shared object.
 
 pub use crate::actions::{ACTIONS, Action, Flavor};
 use std::ffi::{CStr, CString, c_char, c_int, c_void};
@@ -15,8 +15,8 @@ pub struct Outcome {
 
 pub type Call = unsafe extern "C" fn(*const u8, usize, *mut u8, usize) -> Outcome;
 
-/// Makes the library's call on each of many texts of one length, which stand one behind the other,
-/// so many times over. The outcome's length is the sum of the answers' lengths.
+/// Calls the library for each of many texts of one length, one after another, and this several times.
+/// The outcome's length is the sum of the results' lengths.
 pub type EachCall = unsafe extern "C" fn(*const u8, usize, usize, usize) -> Outcome;
 
 macro_rules! linked_calls {
@@ -25,7 +25,7 @@ macro_rules! linked_calls {
             $(fn $symbol $arguments -> Outcome;)*
         }
 
-        /// The calls of this form that are linked, by their names.
+        /// The linked calls with this signature, by name.
         const $list: &[(&str, $call)] = &[$((stringify!($symbol), $symbol)),*];
     };
 }
@@ -60,8 +60,8 @@ linked_calls! {
     measured_mutf8_encoded_len_each,
 }
 
-/// Calls that another codec may have beside these, or in their place: they take bytes that the
-/// caller knows to be UTF-8.
+/// Calls that another codec may have in addition or instead: their input is bytes that the caller
+/// knows to be UTF-8.
 const TEXT_CALLS: [&str; 2] = ["measured_encode_text", "measured_mutf8_encode_text"];
 
 unsafe extern "C" {
@@ -84,18 +84,18 @@ impl Flavor {
 }
 
 impl Action {
-    /// Whether the call takes a text, as its UTF-8.
+    /// Whether the input is a text, as its UTF-8.
     pub fn takes_text(self) -> bool {
         matches!(self, Action::Encode | Action::EncodedLength)
     }
 
-    /// Whether the call tells a length alone, and writes nothing.
+    /// Whether the call only returns a length, and writes nothing.
     pub fn tells_length(self) -> bool {
         matches!(self, Action::EncodedLength | Action::LossyLength)
     }
 }
 
-/// A test whether bytes hold one that encoding changes.
+/// A test whether encoding changes some byte.
 #[derive(Clone, Copy, PartialEq)]
 pub enum Kernel {
     Four,
@@ -121,7 +121,7 @@ pub fn call_name(action: Action, flavor: Flavor) -> String {
     format!("{prefix}{}", action.title())
 }
 
-/// An encoding as the head of a column.
+/// An encoding as the title of a column.
 pub fn encoding_title(flavor: Flavor) -> &'static str {
     match flavor {
         Flavor::Cesu8 => "CESU-8",
@@ -137,25 +137,24 @@ pub fn path(action: Action, flavor: Flavor) -> String {
     }
 }
 
-/// A call as it is measured: on one input at a time, or on each of many texts by one export.
+/// What is measured: a call on one input at a time, or an export that makes it on each of many texts.
 #[derive(Clone, Copy)]
 pub enum MeasuredCall {
     One(Call),
     Each(EachCall),
 }
 
-/// The calls of one codec, by their names. An older build, or another codec, may have some of them
-/// alone.
+/// The calls of one codec, by name. An older build or another codec may have only some of them.
 pub struct Codec {
     pub name: String,
-    /// The processor level that this library is built for; none of another codec.
+    /// The processor level for which this library is built; `None` for another codec.
     pub level: Option<String>,
     calls: Vec<(String, Call)>,
     each_calls: Vec<(String, EachCall)>,
 }
 
-/// A call of a shared object by its name. In other codecs and in older builds of this library the
-/// name begins with `cesu8_static_`.
+/// Finds a call of a shared object by its name. In other codecs and in older builds of this library
+/// the name begins with `cesu8_static_`.
 fn found_in(object: *mut c_void, call: &str) -> Option<*mut c_void> {
     let other_name = call.replacen("measured_", "cesu8_static_", 1);
     [call, &other_name].into_iter().find_map(|symbol| {
@@ -187,7 +186,7 @@ impl Codec {
         }
     }
 
-    /// This library's build for another level.
+    /// Opens a build of this library for another level.
     pub fn built_for(level: &str, file: &str) -> Result<Codec, String> {
         let codec = Codec::opened("simd_cesu8", file)?;
         Ok(Codec {
@@ -196,7 +195,7 @@ impl Codec {
         })
     }
 
-    /// Another codec.
+    /// Opens another codec.
     pub fn opened(name: &str, file: &str) -> Result<Codec, String> {
         let path = CString::new(file).map_err(|e| e.to_string())?;
         let object = unsafe { dlopen(path.as_ptr(), RTLD_NOW) };
@@ -233,7 +232,7 @@ impl Codec {
         named(&self.calls, &call_name(action, flavor))
     }
 
-    /// The call on a text without a test for UTF-8.
+    /// The call for a text without a test for UTF-8: for one text, or otherwise for many.
     pub fn text_call(&self, action: Action, flavor: Flavor) -> Option<MeasuredCall> {
         let name = call_name(action, flavor);
         let one = named(&self.calls, &format!("{name}_text"));
@@ -251,8 +250,8 @@ pub fn outcome(call: Call, input: &[u8], buf: &mut [u8]) -> Outcome {
     unsafe { call(input.as_ptr(), input.len(), buf.as_mut_ptr(), buf.len()) }
 }
 
-/// Whether a call answers as it has to. The answer of one that tells a length is taken as that many
-/// bytes.
+/// Whether a call returns and writes `answer`. A call that only returns a length must return that of
+/// `answer`.
 pub fn answers(call: Call, action: Action, input: &[u8], answer: &[u8]) -> bool {
     let mut buf = vec![0; answer.len()];
     let outcome = outcome(call, input, &mut buf);
@@ -263,13 +262,13 @@ pub fn answers(call: Call, action: Action, input: &[u8], answer: &[u8]) -> bool 
         && (buf == answer || action.tells_length())
 }
 
-/// Whether a call refuses an input.
+/// Whether a call rejects an input.
 fn refuses(call: Call, input: &[u8]) -> bool {
     let outcome = outcome(call, input, &mut []);
     outcome.is_invalid && !outcome.has_answer
 }
 
-/// An input for a call, and what it has to answer, or none where it has to refuse the input.
+/// An input for a call, and the result that it must return, or `None` if it must reject the input.
 pub struct Question<'a> {
     pub action: Action,
     pub flavor: Flavor,
@@ -286,7 +285,7 @@ impl Question<'_> {
         }
     }
 
-    /// Whether this call of a codec answers rightly.
+    /// Returns an error if this call of a codec returns something else.
     pub fn check(&self, codec: &Codec, call: Call) -> Result<(), String> {
         if self.is_answered_by(call) {
             return Ok(());

@@ -1,12 +1,12 @@
-//! Measures the library's calls, through the static library `measured`, beside a plain copy and
-//! `str::from_utf8`, in one run on one machine. README.md says how to run it and what it prints.
+//! Measures the library's calls, which are linked from the static library `measured`. A plain copy
+//! and `str::from_utf8` are measured for comparison. README.md says how to run it and what it prints.
 //!
 //! Usage: driver --level LEVEL [--rounds N] [--runs N] [--machine WORDS] [--picture FILE]
 //!     [--against LEVEL=FILE].. [NAME=FILE ..]
 //!
-//! Each FILE behind `=` is a shared object with the calls that `bench/measured.h` declares, or
-//! some of them: this library's build for another level, or another codec. All are measured in the
-//! same rounds.
+//! Each FILE after `=` is a shared object with some or all of the calls that `bench/measured.h`
+//! declares: this library's build for another level, or another codec. All codecs are measured in
+//! the same rounds, so that they run under the same conditions.
 
 mod actions;
 mod calls;
@@ -34,13 +34,13 @@ const DEFAULT_ROUNDS: u32 = 400;
 const USAGE: &str = "usage: driver --level LEVEL [--rounds N] [--runs N] [--machine WORDS] \
     [--picture FILE] [--against LEVEL=FILE].. [NAME=FILE ..]";
 
-/// What the words after the driver's name ask for.
+/// The command line.
 struct Asked {
     rounds: u32,
     runs: u32,
-    /// The date and the machine, as the picture names them.
+    /// The date and the machine, for the picture.
     machine: String,
-    /// Where the picture is written.
+    /// The file to which the picture is written.
     picture: Option<String>,
     codecs: Vec<Codec>,
 }
@@ -51,7 +51,7 @@ struct Group<'a> {
     grids: Vec<Grid<'a>>,
 }
 
-/// All that is measured. Each call is compared with the plain codec here, and timed later.
+/// Prepares all tables. This compares each call with the plain codec; it is timed later.
 fn groups(codecs: &[Codec]) -> Result<Vec<Group<'_>>, String> {
     let group = |title, grids| Group { title, grids };
     Ok(vec![
@@ -63,7 +63,7 @@ fn groups(codecs: &[Codec]) -> Result<Vec<Group<'_>>, String> {
     ])
 }
 
-/// What is measured beside the calls.
+/// What is measured for comparison with the calls.
 struct Beside {
     copy: Measured,
     nothing: Nothing,
@@ -92,7 +92,7 @@ impl Beside {
     }
 }
 
-/// How far the times of this library lie apart from run to run.
+/// Prints how much the times of this library differ from run to run.
 fn print_scatter(groups: &[Group], runs: u32) {
     let grids = groups.iter().flat_map(|group| &group.grids);
     let mut scatters: Vec<f64> = grids.flat_map(Grid::scatters).collect();

@@ -1,4 +1,5 @@
-//! The plain codec: what a call has to answer, by std's UTF-16 and one code unit at a time.
+//! The plain codec: computes what a call must return, one code unit at a time, with the UTF-16 of
+//! Rust's std. It shares no code with the library.
 
 use crate::actions::{Action, Flavor};
 use std::str;
@@ -21,8 +22,9 @@ pub fn encoded(flavor: Flavor, text: &str) -> Vec<u8> {
     out
 }
 
-/// The code units that bytes of one to three spell, or none where the bytes end early or have another
-/// form. An overlong form shows when the text is encoded again.
+/// Decodes code units of one to three bytes. Returns `None` if the bytes end within a code unit or
+/// have another form. It does not reject overlong forms or wrong continuation bytes: the caller
+/// finds them by encoding the text again.
 fn units(bytes: &[u8]) -> Option<Vec<u16>> {
     let mut units = Vec::new();
     let mut rest = bytes;
@@ -48,14 +50,14 @@ fn strictly_decoded(flavor: Flavor, bytes: &[u8]) -> Option<Vec<u8>> {
     (encoded(flavor, &text) == bytes).then(|| text.into_bytes())
 }
 
-/// The character whose encoding the bytes begin with, in UTF-8, and how many bytes that takes.
+/// Decodes the character at the start of the bytes. Returns its UTF-8 and the length of its encoding.
 fn first_character(flavor: Flavor, bytes: &[u8]) -> Option<(Vec<u8>, usize)> {
     let mut lengths = [1, 2, 3, 6].into_iter();
     lengths.find_map(|length| Some((strictly_decoded(flavor, bytes.get(..length)?)?, length)))
 }
 
-/// Each encoded character, and U+FFFD for each byte that is in none. A character of more bytes than
-/// one is sought where no shorter one stands, so what is found is never two.
+/// Each encoded character, and U+FFFD for each byte that is not part of one. `first_character` tries
+/// short lengths first, so it never finds two characters as one.
 fn lossily_decoded(flavor: Flavor, bytes: &[u8]) -> Vec<u8> {
     let mut text = Vec::new();
     let mut rest = bytes;
@@ -68,8 +70,8 @@ fn lossily_decoded(flavor: Flavor, bytes: &[u8]) -> Vec<u8> {
     text
 }
 
-/// The answer, or none where the input has to be refused. For a call that tells a length it is what
-/// has that length.
+/// The result that a call must return, or `None` if it must reject the input. For a call that only
+/// returns a length, the result's length is that.
 pub fn expected(action: Action, flavor: Flavor, input: &[u8]) -> Option<Vec<u8>> {
     let is_utf8 = str::from_utf8(input).is_ok();
     match action {
@@ -78,7 +80,7 @@ pub fn expected(action: Action, flavor: Flavor, input: &[u8]) -> Option<Vec<u8>>
         }
         Action::Decode | Action::DecodeLossy if is_utf8 => Some(input.to_vec()),
         Action::Decode | Action::DecodeStrict => strictly_decoded(flavor, input),
-        // A whole encoding is read as strictly, which takes less time.
+        // The lossy reading of a valid encoding is the strict one, which is faster to compute.
         Action::DecodeLossy | Action::DecodeLossyStrict | Action::LossyLength => {
             strictly_decoded(flavor, input).or_else(|| Some(lossily_decoded(flavor, input)))
         }

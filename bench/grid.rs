@@ -1,17 +1,18 @@
-//! The times of one call: a row for each kind of input, and a column for each length or encoding.
+//! A table with the times of one call: a row for each kind of input, and a column for each length or
+//! encoding.
 
 use crate::codec::{Codec, Flavor, encoding_title};
 use crate::timing::Measured;
 use std::collections::BTreeSet;
 
-/// In what a table gives times.
+/// The unit of a table's times.
 #[derive(Clone, Copy)]
 pub enum Unit {
     Gigabytes,
     Nanoseconds,
 }
 
-/// What a column is of: inputs of so many bytes, or calls in one encoding.
+/// A column: inputs of this length in bytes, or calls for this encoding.
 #[derive(Clone, Copy, PartialEq, Eq, PartialOrd, Ord)]
 pub enum Column {
     Length(usize),
@@ -27,15 +28,15 @@ impl Column {
     }
 }
 
-/// What is measured of each codec on inputs of one kind.
+/// The measurements of each codec on inputs of one kind.
 struct Cell {
     row: String,
     column: Column,
     codecs: Vec<Option<Measured>>,
 }
 
-/// The time of this library's call, and how much longer the fastest other codec takes, if any has
-/// the call.
+/// The time of this library's call, and how many times as long the fastest other codec takes, if
+/// there is one with this call.
 #[derive(Clone, Copy)]
 pub struct Entry {
     pub seconds: f64,
@@ -60,7 +61,7 @@ impl Grid<'_> {
         }
     }
 
-    /// Adds a cell, with what is measured of each codec, if anything.
+    /// Adds a cell with the measurements of each codec that has the call.
     pub fn add(
         &mut self,
         row: &str,
@@ -81,7 +82,7 @@ impl Grid<'_> {
         cells.flat_map(|cell| cell.codecs.iter_mut().flatten())
     }
 
-    /// How far the times of the runs lie apart in each cell of this library.
+    /// For each cell of this library, the slowest run's time divided by the fastest one's.
     pub fn scatters(&self) -> impl Iterator<Item = f64> {
         let cells = self.cells.iter();
         let measured = cells.flat_map(|cell| cell.codecs.iter().zip(self.codecs));
@@ -89,7 +90,7 @@ impl Grid<'_> {
         own.filter_map(|(measured, _)| Some(measured.as_ref()?.scatter()))
     }
 
-    /// What stands in a cell of one of this library's builds.
+    /// The content of a cell for one of this library's builds.
     pub fn entry(&self, row: &str, column: Column, codec: usize) -> Option<Entry> {
         let mut cells = self.cells.iter();
         let cell = cells.find(|cell| cell.row == row && cell.column == column)?;
@@ -115,7 +116,7 @@ impl Grid<'_> {
         }
     }
 
-    /// The least ratio of a column and its row, or the greatest time, where nothing is compared.
+    /// The least ratio in a column and its row. If there is no other codec, the greatest time.
     fn worst(&self, rows: &[&str], column: Column, codec: usize) -> Option<String> {
         let entries = rows.iter().filter_map(|row| {
             let entry = self.entry(row, column, codec)?;
@@ -130,7 +131,7 @@ impl Grid<'_> {
         Some(format!("{written}, {row}"))
     }
 
-    /// A table for each of this library's builds, unless there is nothing in it.
+    /// Prints a table for each of this library's builds that has any of the calls.
     pub fn print(&self) {
         for (at, codec) in self.codecs.iter().enumerate() {
             if let Some(level) = &codec.level
@@ -161,7 +162,7 @@ impl Grid<'_> {
     }
 }
 
-/// Each word once, in the order in which they first come.
+/// The words without duplicates, in the order of their first occurrences.
 fn distinct<'a>(words: impl Iterator<Item = &'a str>) -> Vec<&'a str> {
     let mut seen = Vec::new();
     for word in words {
@@ -180,7 +181,7 @@ fn print_line(title: &str, cells: impl Iterator<Item = Option<String>>) {
     println!();
 }
 
-/// Three digits, or those before the point.
+/// A time with three digits, or all digits before the point if there are more.
 pub fn nanoseconds(seconds: f64) -> String {
     let number = seconds * 1e9;
     match number {
@@ -190,7 +191,7 @@ pub fn nanoseconds(seconds: f64) -> String {
     }
 }
 
-/// Two digits, or those before the point.
+/// A ratio with two digits, or all digits before the point if there are more.
 pub fn two_digits(number: f64) -> String {
     match number {
         ..0.995 => format!("{number:.2}"),
@@ -199,7 +200,7 @@ pub fn two_digits(number: f64) -> String {
     }
 }
 
-/// A number with its thousands set apart.
+/// A number with commas between groups of three digits.
 pub fn grouped(number: usize) -> String {
     match number / 1_000 {
         0 => number.to_string(),

@@ -1,9 +1,10 @@
 #!/usr/bin/env bash
-# Measures the built program on hostile bytes of 1, 10 and 100 MB. It prints the processor time of
-# the process in milliseconds, with reading and writing, and the ratio of 100 MB to 10 MB:
+# Measures how the time of the program grows with hostile input of 1, 10 and 100 MB. It prints the
+# processor time of the process in milliseconds, including reading and writing, and the ratio of
+# 100 MB to 10 MB:
 #   bench/growth.sh [ROUNDS]
-# It takes the best of ROUNDS, 3 by default. README.md says more. It needs the kit's rt, bash, awk
-# and the core utilities.
+# Each time is the least of ROUNDS runs, 3 by default. README.md says more. It needs the kit's rt, bash,
+# awk and the core utilities.
 set -eu
 # shellcheck source=tests/lib.sh
 source "$(dirname "${BASH_SOURCE[0]}")/../tests/lib.sh"
@@ -13,7 +14,7 @@ source "$top/tests/hostile_bytes.sh"
 rounds=${1:-3}
 lengths=(1000000 10000000 100000000)
 
-# The best time of a command on a file: `best_time COMMAND FILE`.
+# The least time of a command on a file: `best_time COMMAND FILE`.
 best_time() {
     local round took user system best='' TIMEFORMAT='%3U %3S'
     for ((round = 0; round < rounds; round++)); do
@@ -27,7 +28,7 @@ best_time() {
     echo "$best"
 }
 
-# A line of the table: `print_row KIND COMMAND`.
+# Prints a row of the table: `print_row KIND COMMAND`.
 print_row() {
     local length times=()
     for length in "${lengths[@]}"; do

@@ -1,5 +1,5 @@
-//! Decoding of bytes that are bad to read: each call on each kind of them, many different inputs in
-//! turn, and the worst kind of each length.
+//! Decoding of hostile input: damaged, random and otherwise slow to decode. Each call is measured on
+//! many different inputs of each kind in turn, and the tables name the worst kind of each length.
 
 use crate::codec::{Action, Codec, FLAVORS, Flavor, path};
 use crate::expected::{encoded, expected};
@@ -9,14 +9,14 @@ use crate::sets::{Kind, Random, SEED, at_page_start, encoded_bytes, of_any_lengt
 
 const LENGTHS: [usize; 5] = [24, 72, 200, 1_024, 16_380];
 
-/// The inputs of one kind and length have so many bytes together, or it is one input.
+/// The total length of the inputs of one kind and length; a longer input is the only one.
 const BYTES: usize = 1 << 15;
 
-/// The length at which text and random damage are measured too, by a part that is repeated.
+/// Some kinds are also measured at this length, with a part of `LONG_PART` bytes that is repeated.
 const LONG: usize = 16_777_212;
 const LONG_PART: usize = 16_380;
 
-/// The calls that read an encoding, each by itself.
+/// The calls that are measured on hostile input.
 const ACTIONS: [Action; 4] = [
     Action::DecodeStrict,
     Action::DecodeLossy,
@@ -27,14 +27,14 @@ const ACTIONS: [Action; 4] = [
 /// How the bytes of one kind are made.
 #[derive(Clone, Copy)]
 enum Made {
-    /// The same as the first of `Characters`, in the other encoding.
+    /// Characters of all widths and U+0000, in the other encoding.
     OtherFlavor,
     /// Characters of one to three bytes, with one pair in 97.
     OnePairIn97,
     Noise,
-    /// Characters of a kind of text, with one byte in so many, if any, replaced by a random one.
+    /// Characters of a kind of text. With a number, one byte in so many is replaced by a random one.
     Characters(Kind, Option<u64>),
-    /// Characters, and after some of them the front of another one.
+    /// Characters, some of which are followed by an incomplete one.
     CutCharacters,
     /// These pieces, in random order.
     Pieces(&'static [&'static [u8]]),
@@ -47,7 +47,7 @@ enum Made {
 const HIGH_SURROGATE: &[u8] = b"\xED\xA0\xBD";
 const LOW_SURROGATE: &[u8] = b"\xED\xB2\x96";
 
-/// What characters and their encodings begin with.
+/// Incomplete characters: the first bytes of their encodings.
 const FRONTS: [&[u8]; 6] = [
     b"\xC3",
     b"\xE2",
@@ -57,7 +57,7 @@ const FRONTS: [&[u8]; 6] = [
     b"\xED\xA0\xBD\xED\xB2",
 ];
 
-/// Whole characters, halves of a pair, fronts, and bytes that begin nothing.
+/// Whole characters, halves of a surrogate pair, incomplete characters, and bytes that begin none.
 const FRAGMENTS: [&[u8]; 20] = [
     b"a",
     b"\0",
@@ -149,7 +149,7 @@ const KINDS: [(&str, Made); 32] = [
     ("FF for one byte in 128", Made::WithFf(128)),
 ];
 
-/// At least so many bytes of pieces.
+/// Joins pieces until there are at least `length` bytes.
 fn joined<P: AsRef<[u8]>>(length: usize, mut piece: impl FnMut() -> P) -> Vec<u8> {
     let mut bytes = Vec::new();
     while bytes.len() < length {
@@ -162,7 +162,7 @@ fn one_of(pieces: &[&'static [u8]], random: &mut Random) -> &'static [u8] {
     pieces[(random.next() % pieces.len() as u64) as usize]
 }
 
-/// A character of one to three bytes, and after one in 32 the front of another one.
+/// A character of one to three bytes, in one of 32 cases followed by an incomplete one.
 fn cut_piece(flavor: Flavor, random: &mut Random) -> Vec<u8> {
     let mut bytes = encoded(flavor, &of_any_length(random, 3).to_string());
     if random.next() % 32 == 0 {
@@ -171,7 +171,7 @@ fn cut_piece(flavor: Flavor, random: &mut Random) -> Vec<u8> {
     bytes
 }
 
-/// Three-byte characters, letters where no other one fits, and FF: so many bytes.
+/// This many bytes: characters of three bytes, letters to fill up the rest, and FF.
 fn ending_in_ff(length: usize) -> Vec<u8> {
     let mut bytes = "\u{20AC}".repeat((length - 1) / 3).into_bytes();
     bytes.resize(length - 1, b'z');
@@ -188,7 +188,7 @@ impl Made {
         )
     }
 
-    /// Whether it is measured at the greatest length.
+    /// Whether the kind is also measured at the length `LONG`.
     fn is_long(self) -> bool {
         matches!(
             self,
@@ -199,7 +199,7 @@ impl Made {
         )
     }
 
-    /// So many bytes, the last a letter, which may cut a character.
+    /// Makes this many bytes. The last is a letter, so the character before it may be incomplete.
     fn bytes(self, flavor: Flavor, length: usize, random: &mut Random) -> Vec<u8> {
         let mut bytes = match self {
             Made::Characters(kind, distance) => {
@@ -212,7 +212,7 @@ impl Made {
                     of_any_length(random, 5)
                 })
             }
-            // The first pair stands within the shortest input.
+            // The first pair is at offset 3, so that even the shortest input contains one.
             Made::OnePairIn97 => encoded_bytes(flavor, length, None, random, |random, place| {
                 match place % 97 {
                     3 => '\u{1F496}',
@@ -231,7 +231,8 @@ impl Made {
         bytes
     }
 
-    /// Inputs of this kind. Where there are some that strict reading refuses, it refuses all.
+    /// Makes inputs of this kind. If strict decoding rejects some, only such inputs are returned, so
+    /// that a strict call either decodes all or rejects all.
     fn inputs(self, flavor: Flavor, length: usize) -> Inputs {
         let count = if self.is_random() { BYTES / length } else { 1 };
         let mut random = Random(SEED);
@@ -255,7 +256,8 @@ pub fn heading(action: Action, flavor: Flavor) -> String {
     format!("`{}` on hostile input, in GB/s", path(action, flavor))
 }
 
-/// One call on all kinds: where it builds an answer or tells its length, and where it refuses them.
+/// The tables of one call on all kinds: one for the inputs that it decodes, or whose decoded length it
+/// returns, and one for those that it rejects.
 struct Part<'a> {
     action: Action,
     flavor: Flavor,
@@ -274,7 +276,7 @@ impl Part<'_> {
         }
     }
 
-    /// Tests the call, which is left out where its answer is the input itself.
+    /// Adds a cell after testing the call. It is left out if the call borrows the input.
     fn add(&mut self, case: &Case, kind: &str, length: usize) -> Result<(), String> {
         if case.is_borrowed() {
             return Ok(());

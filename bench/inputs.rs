@@ -1,4 +1,4 @@
-//! Inputs of one length that stand one behind the other, and a codec's call on each of them in turn.
+//! Inputs of one length, one after another, and a codec's call on each of them in turn.
 
 use crate::codec::{Action, Call, Codec, EachCall, Flavor, MeasuredCall, Question, call_name};
 use crate::expected::expected;
@@ -9,7 +9,7 @@ use std::slice::ChunksExact;
 #[derive(Clone, Copy)]
 pub struct Inputs {
     pub bytes: &'static [u8],
-    /// How many bytes each input has.
+    /// The length of each input.
     pub length: usize,
 }
 
@@ -30,8 +30,8 @@ impl Inputs {
     }
 }
 
-/// A call on inputs of a kind, and what it has to return for each of them: none where it has to
-/// refuse the input.
+/// A call on inputs of a kind, and the result that it must return for each, or `None` if it must
+/// reject the input.
 pub struct Case<'a> {
     action: Action,
     flavor: Flavor,
@@ -52,7 +52,7 @@ impl<'a> Case<'a> {
         }
     }
 
-    /// A call on an input that repeats a part. Each part ends where a character ends.
+    /// A call on one input that repeats a part. The part must end at the end of a character.
     pub fn repeated(
         action: Action,
         flavor: Flavor,
@@ -70,12 +70,12 @@ impl<'a> Case<'a> {
         }
     }
 
-    /// Whether the call answers one of the inputs at least.
+    /// Whether the call accepts at least one of the inputs.
     pub fn is_answered(&self) -> bool {
         self.answers.iter().any(Option::is_some)
     }
 
-    /// Whether each answer is the input itself.
+    /// Whether each result equals the input, so that it is borrowed.
     pub fn is_borrowed(&self) -> bool {
         let mut pairs = self.inputs.iter().zip(&self.answers);
         !self.action.tells_length() && pairs.all(|(input, answer)| answer.as_deref() == Some(input))
@@ -111,8 +111,8 @@ impl<'a> Case<'a> {
         ))
     }
 
-    /// What is measured of a codec's call on bytes, which has to be right on each input: none where
-    /// it has no such call.
+    /// Prepares the measurement of a codec's call on bytes, or returns `None` if the codec has no such
+    /// call. It is an error if the call returns a wrong result for one of the inputs.
     pub fn measured_bytes(&self, codec: &Codec) -> Result<Option<Measured>, String> {
         let Some(call) = codec.call(self.action, self.flavor) else {
             return Ok(None);
@@ -121,7 +121,7 @@ impl<'a> Case<'a> {
         Ok(Some(Measured::of_inputs(call, self.inputs)))
     }
 
-    /// The same, but a call on a text is measured without a test for UTF-8.
+    /// Like `measured_bytes`, but a call on a text is measured without a test for UTF-8.
     pub fn measured(&self, codec: &Codec) -> Result<Option<Measured>, String> {
         if !self.action.takes_text() {
             return self.measured_bytes(codec);
@@ -134,7 +134,7 @@ impl<'a> Case<'a> {
                 self.check(codec, call)?;
                 Measured::of_inputs(call, self.inputs)
             }
-            // It returns no bytes, so those of the call on one text are looked at.
+            // This export returns no bytes, so the call on one text is checked instead.
             MeasuredCall::Each(each) => {
                 let call = codec.call(self.action, self.flavor);
                 call.map_or(Ok(()), |call| self.check(codec, call))?;

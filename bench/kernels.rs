@@ -1,4 +1,4 @@
-//! The kernels, on ASCII without null of four lengths.
+//! The kernels, on ASCII without U+0000 of four lengths.
 
 use crate::codec::{Call, Codec, KERNELS, Kernel, outcome};
 use crate::grid::{Column, Grid, Unit};
@@ -7,7 +7,8 @@ use crate::timing::Measured;
 
 const LENGTHS: [usize; 4] = [16, 24, 1_024, 16_384];
 
-/// Compares the answers on ASCII, which has no byte that is sought, and where one ends it.
+/// Checks the results on ASCII, in which the kernel finds nothing, and on ASCII that ends in a byte
+/// that it should find.
 fn is_right(call: Call, kernel: Kernel, ascii: &[u8]) -> bool {
     let ending_in = |last| {
         let mut bytes = ascii.to_vec();

@@ -1,12 +1,13 @@
-//! Some rows of the tables as a picture: for each build of this library a bar from 1 to how many
-//! times as fast it is as the fastest other codec of the run, to the left where it is slower.
+//! Draws some rows of the tables. For each build of this library there is a bar from 1 to the ratio of
+//! its speed to that of the fastest other codec of the run. It points to the left if the library is
+//! slower.
 
 use crate::codec::{Action, Codec, FLAVORS, Flavor, encoding_title};
 use crate::grid::{Column, Entry, Grid, grouped, nanoseconds, two_digits};
 use crate::{calls, hostile, short, texts};
 use std::fmt::{self, Write};
 
-/// What is drawn.
+/// The measurements of which some are drawn.
 pub struct Run<'a> {
     /// The date and the machine.
     pub machine: &'a str,
@@ -14,7 +15,7 @@ pub struct Run<'a> {
     pub grids: Vec<&'a Grid<'a>>,
 }
 
-/// Where the times of a panel stand.
+/// The table that has the times of a panel.
 enum Source {
     Texts,
     Calls(Action),
@@ -130,14 +131,14 @@ const PANELS: [Panel; 8] = [
     },
 ];
 
-/// Inputs of fewer bytes are short.
+/// For inputs of fewer bytes, times are in nanoseconds a call.
 const SHORT: usize = 1_024;
 
 const WIDTH: f64 = 900.0;
-/// Where the plots of the two encodings begin, and how wide each is.
+/// The left edges of the plots of the two encodings, and the width of each.
 const PLOTS: [f64; 2] = [230.0, 570.0];
 const PLOT: f64 = 200.0;
-/// The logarithms of the ratios, by 2, at which a plot begins and ends.
+/// The base-2 logarithms of the ratios at the left and right edge of a plot.
 const LEAST: f64 = -2.0;
 const MOST: f64 = 4.0;
 const MARKS: [f64; 4] = [0.25, 1.0, 4.0, 16.0];
@@ -145,7 +146,7 @@ const BAR: f64 = 9.0;
 const ROW: f64 = 26.0;
 const TOP: f64 = 84.0;
 
-/// Where a ratio stands in a plot.
+/// The distance of a ratio from the left edge of a plot.
 fn place(ratio: f64) -> f64 {
     PLOT * (ratio.log2().clamp(LEAST, MOST) - LEAST) / (MOST - LEAST)
 }
@@ -173,7 +174,7 @@ fn rect(
 }
 
 impl Panel {
-    /// What was measured of a build of this library in a row.
+    /// The measurements of a build of this library in a row.
     fn entry(&self, run: &Run, row: &str, flavor: Flavor, codec: usize) -> Option<Entry> {
         let length = Column::Length(self.bytes);
         let (heading, column) = match self.source {
@@ -196,7 +197,7 @@ impl Panel {
         }
     }
 
-    /// The bars of the builds in one row and encoding.
+    /// Draws the bars of the builds in one row and encoding.
     fn draw_bars(&self, svg: &mut String, run: &Run, row: &str, at: usize, y: f64) -> fmt::Result {
         for (number, codec) in own(run).enumerate() {
             let Some(entry) = self.entry(run, row, FLAVORS[at], codec) else {
@@ -232,14 +233,14 @@ impl Panel {
     }
 }
 
-/// The places of this library's builds among the codecs.
+/// The indices of this library's builds among the codecs.
 fn own<'a>(run: &'a Run) -> impl Iterator<Item = usize> + 'a {
     let codecs = run.codecs.iter().enumerate();
     let own = codecs.filter(|(_, codec)| codec.level.is_some());
     own.map(|(at, _)| at)
 }
 
-/// The scale over a plot, and its lines through it.
+/// Draws the scale above a plot, and its lines through the plot.
 fn draw_marks(svg: &mut String, x: f64, y: f64, height: f64) -> fmt::Result {
     for mark in MARKS {
         let x = x + place(mark);
@@ -300,7 +301,7 @@ fn drawn(run: &Run) -> Result<String, fmt::Error> {
     Ok(whole)
 }
 
-/// The ground is clear, and the colours hold on white and on black.
+/// The background is transparent, and the colours are legible on white and on black.
 const STYLE: &str = "<style>
 text { font: 12px sans-serif; fill: #7a828c }
 .bar0 { fill: #4c8fd6 }

@@ -2,8 +2,9 @@
 //!
 //!     plain CALL ENCODING
 //!
-//! It writes what the call has to answer to the bytes on standard input. The status is 1 where the
-//! call has to refuse them. CALL is its name, as `decode_strict`, and ENCODING is `cesu8` or `mutf8`.
+//! It reads bytes from standard input, and writes the result that the call must return for them. The
+//! status is 1 if the call must reject them. CALL is a name such as `decode_strict`, and ENCODING is
+//! `cesu8` or `mutf8`.
 
 mod actions;
 mod expected;
@@ -22,7 +23,7 @@ fn flavor_of(encoding: &str) -> Option<Flavor> {
     }
 }
 
-/// What the words after the program's name ask for.
+/// The call and the encoding that the command line names.
 fn asked() -> Option<(Action, Flavor)> {
     let words: Vec<String> = env::args().skip(1).collect();
     let [call, encoding] = words.as_slice() else {

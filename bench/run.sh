@@ -1,6 +1,6 @@
 #!/bin/sh
-# Proves and builds the static library, builds the driver and runs it, as the usage below says. README.md
-# says more. Other words are refused with status 2, before anything is built. It needs the kit's rt, rustc,
+# Proves and builds the static library, then builds the driver and runs it. README.md describes the
+# options. The status is 2 for other arguments, before anything is built. It needs the kit's rt, rustc,
 # objcopy and, for --against, cc.
 set -eu
 
@@ -22,7 +22,7 @@ kit=$(dirname "$(dirname "$(readlink -f "$(command -v rt)")")")
 cpu=x86-64-v2
 against=
 tables=
-# What is not for this script goes to the driver.
+# Arguments that are not for this script are passed to the driver.
 left=$#
 while [ "$left" -gt 0 ]; do
     word=$1
@@ -47,8 +47,8 @@ while [ "$left" -gt 0 ]; do
     esac
 done
 
-# The archive for one processor level, proved and built. Its functions begin at multiples of 32 bytes,
-# as those of the release do: otherwise what stands before a call moves it by up to a tenth.
+# Proves and builds the archive for one processor level. Its functions are aligned to 32 bytes, as those
+# of the release are: otherwise the code before a function changes its time by up to a tenth.
 build() {
     mkdir -p "$out/$1"
     if ! (cd "$crate" && rt lib --cpu "$1" ${PROOF_JOBS:+--jobs "$PROOF_JOBS"}) >"$out/$1/rt.log" 2>&1; then
@@ -59,6 +59,7 @@ build() {
     objcopy --set-section-alignment '.text*=32' "$crate/out/libmeasured.a" "$out/$1/libmeasured.a"
 }
 
+# A build for another level is a shared object, so the kit's C library is linked into it.
 for level in $against; do
     build "$level"
     cc -shared -o "$out/$level/measured.so" -Wl,--whole-archive "$out/$level/libmeasured.a" \

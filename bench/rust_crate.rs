@@ -1,5 +1,5 @@
-//! The calls of the Rust crate `simd_cesu8`, with the names of `measured.h`, for a shared object that
-//! bench measures beside this library. README.md has the lines that build it.
+//! The calls of the Rust crate `simd_cesu8`, with the names of `measured.h`, for a shared object with
+//! which bench compares this library. README.md has the lines that build it.
 
 use simd_cesu8::mutf8;
 use std::borrow::Cow;
@@ -14,12 +14,12 @@ pub struct Outcome {
     is_invalid: bool,
 }
 
-/// What a call answered, copied to the front of the buffer if it fits there.
-fn told(answer: Option<Cow<[u8]>>, buf: &mut [u8]) -> Outcome {
+/// Copies a result to the start of the buffer if it fits, and returns the outcome.
+fn outcome(answer: Option<Cow<[u8]>>, buf: &mut [u8]) -> Outcome {
     if let Some(bytes) = &answer
-        && let Some(front) = buf.get_mut(..bytes.len())
+        && let Some(start) = buf.get_mut(..bytes.len())
     {
-        front.copy_from_slice(bytes);
+        start.copy_from_slice(bytes);
     }
     Outcome {
         length: answer.as_ref().map_or(0, |bytes| bytes.len()),
@@ -40,12 +40,12 @@ fn text_of(bytes: &[u8]) -> Option<&str> {
     simdutf8::basic::from_utf8(bytes).ok()
 }
 
-/// An export for each name, whose answer is what the expression makes of the input.
+/// Makes an export for each name. Its result is what the expression computes from the input.
 macro_rules! exports {
     ($($name:ident: $answer:expr;)*) => {$(
         /// # Safety
         ///
-        /// The pointers are of so many bytes, and not null.
+        /// The pointers must be valid for this many bytes, and not null.
         #[unsafe(no_mangle)]
         pub unsafe extern "C" fn $name(
             input: *const u8,
@@ -56,7 +56,7 @@ macro_rules! exports {
             let input = unsafe { slice::from_raw_parts(input, length) };
             let buf = unsafe { slice::from_raw_parts_mut(buf, buf_length) };
             let answer: fn(&[u8]) -> Option<Cow<[u8]>> = $answer;
-            told(answer(input), buf)
+            outcome(answer(input), buf)
         }
     )*};
 }

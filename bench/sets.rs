@@ -1,4 +1,4 @@
-//! The inputs, made from a fixed seed.
+//! The inputs of 16,380 bytes, and kinds of text for other lengths, made from a fixed seed.
 
 use crate::codec::Flavor;
 use crate::expected::encoded;
@@ -8,7 +8,7 @@ use std::{ptr, slice};
 pub const INPUT_LENGTH: usize = 16_380;
 pub const SEED: u64 = 16_380;
 
-/// SplitMix64.
+/// The random number generator SplitMix64.
 pub struct Random(pub u64);
 
 impl Random {
@@ -34,14 +34,15 @@ impl Random {
     }
 }
 
-/// One input. `text` is the UTF-8 of the text that the input spells.
+/// One input, and the UTF-8 of its text.
 pub struct Set {
     pub name: &'static str,
     pub input: &'static [u8],
     pub text: &'static [u8],
 }
 
-/// A copy at the start of a page, so that no set is faster by where it lies. It is never freed.
+/// Copies bytes to the start of a page, so that the alignment of an input does not change its time.
+/// The copy is never freed.
 pub fn at_page_start(bytes: &[u8]) -> &'static mut [u8] {
     let layout = Layout::from_size_align(bytes.len(), 4096).expect("a few pages");
     let start = unsafe { alloc(layout) };
@@ -167,7 +168,7 @@ impl Kind {
         }
     }
 
-    /// Whether no processor can foretell its characters.
+    /// Whether the characters are random, so that a branch predictor cannot learn them.
     pub fn is_by_chance(self) -> bool {
         matches!(
             self,
@@ -175,7 +176,7 @@ impl Kind {
         )
     }
 
-    /// The character at a place of such a text.
+    /// The character at this index of a text of this kind.
     pub fn character(self, random: &mut Random, place: usize) -> char {
         let is_emoji = place % 97 == 10;
         match self {
@@ -205,7 +206,7 @@ impl Kind {
     }
 }
 
-/// A character of one, two, three or four bytes, or U+0000: the first few of these.
+/// A random character of the first `kinds` of these kinds: one, two, three or four bytes, and U+0000.
 pub fn of_any_length(random: &mut Random, kinds: u64) -> char {
     match random.next() % kinds {
         0 => random.character(0x01, 0x7F),
@@ -216,7 +217,7 @@ pub fn of_any_length(random: &mut Random, kinds: u64) -> char {
     }
 }
 
-/// A text of this kind, of so many bytes, filled up with ASCII.
+/// A text of this kind with this many bytes, filled up with ASCII.
 pub fn text_of(kind: Kind, length: usize) -> &'static [u8] {
     let mut random = Random(SEED);
     let mut text = String::with_capacity(length);
@@ -231,8 +232,8 @@ pub fn text_of(kind: Kind, length: usize) -> &'static [u8] {
     at_page_start(text.as_bytes())
 }
 
-/// So many bytes, of which the last is ASCII: the encoding of characters, with one byte in so many, if
-/// any, replaced by a random one.
+/// This many bytes of encoded characters, the last of them ASCII. If `damaged_in` is a number, about
+/// one byte in so many is replaced by a random one.
 pub fn encoded_bytes(
     flavor: Flavor,
     length: usize,

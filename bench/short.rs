@@ -1,4 +1,5 @@
-//! Calls on short inputs: many of a kind and length in turn, so that no processor learns them.
+//! Calls on short inputs. There are many different inputs of a kind and length, so that a branch
+//! predictor cannot learn them.
 
 use crate::codec::{Action, Codec, FLAVORS, Flavor, Outcome, path};
 use crate::expected::{encoded, expected};
@@ -9,7 +10,7 @@ use crate::timing::Measured;
 
 const LENGTHS: [usize; 10] = [4, 8, 16, 24, 32, 48, 64, 96, 128, 256];
 
-/// How many inputs there are of a kind and length.
+/// The number of inputs of a kind and length.
 const COUNT: usize = 1_024;
 
 const ACTIONS: [Action; 6] = [
@@ -21,10 +22,10 @@ const ACTIONS: [Action; 6] = [
     Action::DecodeLossyStrict,
 ];
 
-/// Bytes one of which takes the place of another in damaged input.
+/// One of these bytes replaces another in damaged input.
 const DAMAGE: [u8; 5] = [0x80, 0xC2, 0xE1, 0xED, 0xFF];
 
-/// What the bytes of an input are.
+/// The form in which an input has its text.
 #[derive(Clone, Copy, PartialEq)]
 enum Writing {
     Utf8,
@@ -82,7 +83,7 @@ fn ascii(random: &mut Random) -> char {
     random.character(0x01, 0x7F)
 }
 
-/// A letter of two bytes for one character in so many, and else ASCII.
+/// A letter of two bytes for one character in `distance`, and otherwise ASCII.
 fn latin(random: &mut Random, distance: u64) -> char {
     match random.next() % distance {
         0 => random.character(0xC0, 0x17F),
@@ -108,7 +109,7 @@ impl Kind {
         }
     }
 
-    /// Whether there are such inputs of this length.
+    /// Whether there are inputs of this kind with this length.
     fn exists(self, writing: Writing, length: usize) -> bool {
         match self {
             Kind::OneEmoji | Kind::Pairs => writing.bytes('\u{1F496}').len() <= length,
@@ -128,7 +129,7 @@ impl Kind {
         }
     }
 
-    /// The one character that differs from the others, if any does.
+    /// The one character that differs from the others, if the kind has one.
     fn odd_character(self, random: &mut Random) -> Option<char> {
         match self {
             Kind::OneEmoji => Some(emoji(random)),
@@ -137,8 +138,8 @@ impl Kind {
         }
     }
 
-    /// So many bytes, with a letter in place of each character that does not fit, and the odd one at
-    /// a random place.
+    /// Makes valid input of this many bytes, with a letter in place of each character that does not
+    /// fit, and the odd character at a random position.
     fn whole(self, writing: Writing, random: &mut Random, length: usize) -> Vec<u8> {
         let odd = self.odd_character(random);
         let odd = odd.map_or(Vec::new(), |odd| writing.bytes(odd));
@@ -156,7 +157,7 @@ impl Kind {
         bytes
     }
 
-    /// The same, with one byte replaced so that no text has this encoding.
+    /// Like `whole`, but with one byte replaced so that strict decoding rejects the input.
     fn damaged(self, flavor: Flavor, random: &mut Random, length: usize) -> Vec<u8> {
         loop {
             let mut bytes = self.whole(Writing::Encoding(flavor), random, length);
@@ -184,7 +185,7 @@ impl Kind {
     }
 }
 
-/// One call on all kinds and lengths.
+/// The table of one call on all kinds and lengths.
 struct Part<'a> {
     action: Action,
     flavor: Flavor,
@@ -211,7 +212,7 @@ extern "C" fn nothing(_: *const u8, length: usize, _: *mut u8, _: usize) -> Outc
     }
 }
 
-/// What a call costs in itself.
+/// A call that does nothing: the cost of calling.
 pub struct Nothing(pub Measured);
 
 impl Nothing {
@@ -249,7 +250,7 @@ pub fn grids(codecs: &[Codec]) -> Result<Vec<Grid<'_>>, String> {
     Ok(parts.into_iter().map(|part| part.grid).collect())
 }
 
-/// Adds to the calls that take what is so written.
+/// Adds a cell to the table of each call whose input has this form.
 fn add(parts: &mut [Part], kind: Kind, writing: Writing, length: usize) -> Result<(), String> {
     if !kind.exists(writing, length) {
         return Ok(());

@@ -1,4 +1,4 @@
-//! What encoding a text costs alone, without a test for UTF-8.
+//! The time of encoding a text, without a test for UTF-8.
 
 use crate::codec::{Action, Codec, FLAVORS, Flavor, path};
 use crate::grid::{Column, Grid, Unit};
@@ -11,7 +11,8 @@ pub fn heading(flavor: Flavor) -> String {
     format!("`{}` of a text, in GB/s", path(Action::Encode, flavor))
 }
 
-/// Kinds of text that repeat are measured at one length.
+/// Whether a kind is measured at this length. Texts that repeat a pattern are measured at one length,
+/// except ASCII.
 fn is_measured(kind: Kind, length: usize) -> bool {
     length == 16_380 || kind.is_by_chance() || length == 24 && kind == Kind::Ascii
 }

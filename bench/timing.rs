@@ -1,4 +1,4 @@
-//! The best time of a call, of a plain copy and of `str::from_utf8`.
+//! Measures the least time of a call, of a plain copy and of `str::from_utf8`.
 
 use crate::codec::{Call, EachCall};
 use crate::inputs::Inputs;
@@ -7,40 +7,40 @@ use std::hint::black_box;
 use std::str;
 use std::time::{Duration, Instant};
 
-/// How long one batch of calls is to take, so that reading the clock costs next to nothing.
+/// One batch of calls takes at least this long, so that the cost of reading the clock is negligible.
 const BATCH: Duration = Duration::from_micros(40);
 
-/// The same of calls on texts, with one test for UTF-8 in a batch, so that the test costs next to
-/// nothing too.
+/// One batch of calls on texts takes at least this long. There is one test for UTF-8 in a batch, so its
+/// cost is negligible too.
 const TEXTS_BATCH: Duration = Duration::from_millis(1);
 const LEAST_TEXTS_REPEATS: u32 = 16;
 
-/// Inputs of this many bytes and more are measured in few rounds.
+/// Inputs of this many bytes or more are measured in fewer rounds.
 const LONG: usize = 1 << 20;
 
-/// One round in how many measures long inputs, and one in how many those of which there are many, and
-/// texts.
+/// Long inputs are measured in one round of `LONG_DISTANCE`. Sets of many inputs, and texts, are
+/// measured in one round of `MANY_DISTANCE`.
 const LONG_DISTANCE: u32 = 100;
 const MANY_DISTANCE: u32 = 4;
 
-/// What is measured, and its best time.
+/// Something that is measured, and its least times.
 pub struct Measured {
-    /// Makes so many runs.
+    /// Makes this many runs.
     run: Box<dyn FnMut(u32)>,
-    /// How many calls one run makes, and how many bytes the input of each has.
+    /// The number of calls in a run, and the length of each call's input.
     calls: usize,
     bytes: usize,
-    /// How long a batch is to take, and how many runs it makes.
+    /// The least duration of a batch, and the number of runs in it.
     enough: Duration,
     repeats: u32,
-    /// It is measured in one round of so many.
+    /// It is measured in one round of this many.
     distance: u32,
-    /// The least seconds that a run took, in each measurement.
+    /// The least time of a run in each measurement, in seconds.
     bests: Vec<f64>,
 }
 
 impl Measured {
-    /// A run is one call, on so many bytes.
+    /// Measures runs of one call on this many bytes.
     pub fn new(bytes: usize, mut run: impl FnMut() + 'static) -> Measured {
         let repeated = move |repeats| {
             for _ in 0..repeats {
@@ -58,12 +58,12 @@ impl Measured {
         }
     }
 
-    /// A run is one call on this input.
+    /// Measures runs of one call on this input.
     pub fn of_input(call: Call, input: &'static [u8]) -> Measured {
         Measured::new(input.len(), call_run(call, input))
     }
 
-    /// A run is a call on each of the inputs.
+    /// Measures runs of a call on each of the inputs.
     pub fn of_inputs(call: Call, inputs: Inputs) -> Measured {
         if inputs.count() == 1 {
             return Measured::of_input(call, inputs.bytes);
@@ -75,7 +75,8 @@ impl Measured {
         }
     }
 
-    /// A run is a call on each of the texts, and one export makes all runs of a batch.
+    /// Measures runs of a call on each of the texts. A single call of the export makes all runs of a
+    /// batch.
     pub fn of_texts(call: EachCall, texts: Inputs) -> Measured {
         let one = Measured::new(texts.length, || ());
         Measured {
@@ -94,7 +95,7 @@ impl Measured {
         start.elapsed()
     }
 
-    /// Begins a measurement.
+    /// Begins a measurement: finds how many runs make a batch long enough.
     fn begin(&mut self) {
         while self.bytes < LONG && self.repeats < 1 << 20 && self.batch() < self.enough {
             self.repeats *= 2;
@@ -102,8 +103,8 @@ impl Measured {
         self.bests.push(f64::INFINITY);
     }
 
-    /// Measures one batch, if it is this round's turn. Before it, the inputs are read once, so that
-    /// no codec finds them in the cache because another one was measured on them just now.
+    /// Measures one batch, unless this round is left out. An unmeasured run before it brings the inputs
+    /// into the cache. Otherwise a codec would be faster if another one had just used these inputs.
     fn round(&mut self, round: u32) {
         if round % self.distance == 0 {
             if self.bytes < LONG {
@@ -116,17 +117,17 @@ impl Measured {
         }
     }
 
-    /// The least time of a measurement, in seconds a run.
+    /// The least time of a run over all measurements, in seconds.
     fn least(&self) -> f64 {
         self.bests.iter().copied().fold(f64::INFINITY, f64::min)
     }
 
-    /// The best time of a call.
+    /// The least time of a call, in seconds.
     pub fn seconds(&self) -> f64 {
         self.least() / self.calls as f64
     }
 
-    /// The slowest measurement's time over the fastest one's.
+    /// The slowest measurement's time divided by the fastest one's.
     pub fn scatter(&self) -> f64 {
         self.bests.iter().copied().fold(0.0, f64::max) / self.least()
     }
@@ -136,7 +137,7 @@ impl Measured {
     }
 }
 
-/// Measures all once more in so many rounds, one after the other in each round.
+/// Makes one more measurement of each, in this many rounds. Each round measures all, one after another.
 pub fn measure<'a>(measured: impl Iterator<Item = &'a mut Measured>, rounds: u32) {
     let mut all: Vec<&mut Measured> = measured.collect();
     for one in &mut all {
@@ -149,7 +150,7 @@ pub fn measure<'a>(measured: impl Iterator<Item = &'a mut Measured>, rounds: u32
     }
 }
 
-/// Makes a call with an empty buffer.
+/// Makes a call with an empty buffer, so that nothing is copied.
 fn make(call: Call, input: &[u8]) {
     let mut buf = [0u8; 0];
     black_box(unsafe { call(input.as_ptr(), input.len(), buf.as_mut_ptr(), 0) });
@@ -175,7 +176,8 @@ fn texts_run(call: EachCall, texts: Inputs) -> impl FnMut(u32) {
 }
 
 pub fn copy_run(input: &'static [u8]) -> impl FnMut() {
-    // Half a page further on: a load and a store at one place of two pages hold each other up.
+    // Half a page from the start: a load waits for a preceding store to the same offset in another page
+    // (4K aliasing).
     let room = &mut at_page_start(&[0; INPUT_LENGTH + 2048])[2048..];
     move || {
         room.copy_from_slice(black_box(input));

@@ -1,26 +1,28 @@
-// Texts from bytes and back, by the library's calls, and what Python's own error handlers make of
-// damage. What a handler of a user's own makes of it, and of surrogates, is in cesu8/_codec.py.
-// Nothing of this is proved.
+// Decodes and encodes Python strings with the library's calls. Python's own error handlers for damage
+// are implemented here. Other error handlers, and all for surrogates, are called by cesu8/_codec.py.
+// Nothing in this file is proved.
 
 #include <Python.h>
 #include "cesu8.h"
 
 enum {
-    LONGEST = 6, // A surrogate pair.
-    // A result of so many bytes needs no request for memory.
+    LONGEST = 6, // The bytes of a surrogate pair.
+    // Results up to this many bytes are written to the stack, without an allocation.
     FEW = 512,
-    // From so many bytes on, other threads run meanwhile. With fewer, a call would only wait.
+    // For inputs of this many bytes or more the interpreter lock is released. For shorter ones,
+    // waiting for the lock would cost more than the call.
     MANY = 65536
 };
 
-// No more bytes than this are there, with four for each.
+// Longer inputs are rejected, so that four times their length does not overflow.
 static const size_t MOST = PY_SSIZE_T_MAX / 4;
 
 typedef struct cesu8_answer tells(const uint8_t *, size_t);
 typedef struct cesu8_answer writes(const uint8_t *, size_t, uint8_t *, size_t);
 typedef struct cesu8_progress streams(const uint8_t *, size_t, uint8_t *, size_t);
 
-// By whether they are for MUTF-8; and the last by whether they are lenient, and lossy.
+// The calls by encoding, with MUTF-8 second. For DECODES the other indices are whether the call is
+// lenient and whether it is lossy.
 static const char *const ENCODINGS[2] = {"cesu-8", "mutf-8"};
 static tells *const LOOKS[2] = {cesu8_valid_up_to, cesu8_mutf8_valid_up_to};
 static streams *const STREAMS[2] = {cesu8_stream_decode_strict, cesu8_mutf8_stream_decode_strict};
@@ -36,15 +38,17 @@ struct input {
     size_t length;
 };
 
-// What to decode: of bytes, which nobody changes, those from `start` to `stop`. A handler may go on
-// up to `end`. Other threads wait where Python holds on to the caller's own data meanwhile.
+// What to decode: the bytes from `start` to `stop` of an immutable object. A handler may continue at
+// any offset up to `end`. If `is_held`, Python keeps the caller's data locked during the call, so the
+// interpreter lock is not released.
 struct part {
     PyObject *data;
     Py_ssize_t start, stop, end;
     int is_mutf8, is_held;
 };
 
-// Bytes themselves, or of other data one copy, of which all else is read.
+// Returns bytes objects as they are, and one copy of other data, so that nothing can change while it
+// is decoded.
 static PyObject *bytes_of(PyObject *data)
 {
     if (PyBytes_CheckExact(data))
@@ -55,12 +59,13 @@ static PyObject *bytes_of(PyObject *data)
     return bytes;
 }
 
-// The bytes of a view, by a call in the stable interface of each Python 3, which has Py_buffer from
-// 3.11 on alone. Headers up to 3.12 warn of the call, since it does not hold the data. A view does.
+// Gets the bytes of a view. The stable interface has this function in every Python 3, and Py_buffer
+// only from 3.11 on. Headers up to 3.12 deprecate it because it does not lock the data, but the view
+// already does.
 PyAPI_FUNC(int) PyObject_AsReadBuffer(PyObject *data, const void **bytes, Py_ssize_t *length);
 #pragma GCC diagnostic ignored "-Wdeprecated-declarations"
 
-// A result and a place, as a tuple.
+// Returns a tuple of a result and an offset, or null if the result is null.
 static PyObject *both(PyObject *result, Py_ssize_t place)
 {
     PyObject *number = result == NULL ? NULL : PyLong_FromSsize_t(place);
@@ -70,7 +75,7 @@ static PyObject *both(PyObject *result, Py_ssize_t place)
     return tuple;
 }
 
-// What bytes have between two places, as far as these are in them.
+// Returns the bytes between two offsets, as far as there are any.
 static struct input between(PyObject *data, Py_ssize_t start, Py_ssize_t stop)
 {
     Py_ssize_t length = PyBytes_Size(data);
@@ -95,8 +100,8 @@ static PyObject *text_of(const uint8_t *utf8, size_t length)
     return PyUnicode_DecodeUTF8((const char *)utf8, (Py_ssize_t)length, NULL);
 }
 
-// The text where Python's own `decode` hands over a view alone, of few bytes without damage. Their
-// copy is no object, which would take longer. Else the result is null.
+// Fast path for `bytes.decode`, which passes only a view: decodes up to FEW valid bytes on the stack,
+// without an object for the copy. Otherwise the result is null.
 static PyObject *text_of_few(
     int is_mutf8, PyObject *const *given, Py_ssize_t count, Py_ssize_t *length)
 {
@@ -106,19 +111,19 @@ static PyObject *text_of_few(
     if (count != 1 || !PyMemoryView_Check(*given))
         return NULL;
     if (PyObject_AsReadBuffer(*given, &bytes, length) < 0) {
-        // They are not in a row.
+        // The bytes are not contiguous.
         PyErr_Clear();
         return NULL;
     }
     if (*length > FEW)
         return NULL;
-    // What has no lock of Python's may write there meanwhile.
+    // Code that does not hold the interpreter lock may write to these bytes.
     memcpy(copy, bytes, (size_t)*length);
     struct cesu8_answer answer = DECODES[is_mutf8][0][0](copy, (size_t)*length, few, sizeof few);
     return answer.status == CESU8_OK ? text_of(few, answer.length) : NULL;
 }
 
-// The text of UTF-8 with surrogates, with which Python's own decoder takes several times as long.
+// Decodes UTF-8 that may contain surrogates. Python's own decoder takes several times as long.
 static PyObject *text_with_surrogates(const uint8_t *utf8, size_t length)
 {
     wchar_t *wide = length > MOST ? NULL : PyMem_Malloc(length * sizeof *wide), *end = wide;
@@ -137,7 +142,7 @@ static PyObject *text_with_surrogates(const uint8_t *utf8, size_t length)
     return text;
 }
 
-// An attribute by a name that is there once. Python keeps others in its cache of attributes.
+// Gets an attribute. The name is interned, since Python keeps the names in its attribute cache.
 static PyObject *attribute(PyObject *object, const char *name)
 {
     PyObject *interned = object == NULL ? NULL : PyUnicode_InternFromString(name);
@@ -146,7 +151,7 @@ static PyObject *attribute(PyObject *object, const char *name)
     return value;
 }
 
-// What a function of the package in Python returns for these arguments.
+// Calls a function of cesu8/_codec.py with these arguments, which are released.
 static PyObject *in_python(const char *name, PyObject *arguments)
 {
     PyObject *module = arguments == NULL ? NULL : PyImport_ImportModule("cesu8._codec");
@@ -158,7 +163,7 @@ static PyObject *in_python(const char *name, PyObject *arguments)
     return result;
 }
 
-// Whether the input begins a character, and is not all of it.
+// Whether the input is the beginning of a character, and not a whole one.
 static int is_cut(int is_mutf8, struct input input)
 {
     uint8_t text[LONGEST];
@@ -167,8 +172,8 @@ static int is_cut(int is_mutf8, struct input input)
     return progress.status == CESU8_INCOMPLETE && progress.read == 0;
 }
 
-// Where a character begins that the part's end cuts, or the end. With `surrogatepass` the second of
-// two surrogates is a character too.
+// Returns the offset of an incomplete character at the end of the part, or the end if there is none.
+// With `surrogatepass` the second of two surrogates is a character too.
 static Py_ssize_t before_cut(const struct part *part, const char *errors)
 {
     int is_passed = strcmp(errors, "surrogatepass") == 0;
@@ -181,7 +186,7 @@ static Py_ssize_t before_cut(const struct part *part, const char *errors)
     return part->end;
 }
 
-// The exception for a byte that is in no character.
+// Returns the exception for a byte that is not part of a character.
 static PyObject *error_at(int is_mutf8, PyObject *data, Py_ssize_t place, Py_ssize_t end)
 {
     struct input left = between(data, place, end);
@@ -193,8 +198,8 @@ static PyObject *error_at(int is_mutf8, PyObject *data, Py_ssize_t place, Py_ssi
         place, place + 1, reason);
 }
 
-// Writes what a handler of Python's gives for the first byte of what is left, at most four bytes,
-// and moves on in both. Where another has to be asked, or it would raise, the result is 0.
+// Replaces the first byte of `left` as one of Python's error handlers does: writes at most four bytes
+// to the output, and advances both. Returns 0 if the handler would raise, or is not one of Python's.
 static int replace(const char *errors, struct input *left, uint8_t **output)
 {
     uint8_t byte = *left->bytes;
@@ -218,13 +223,13 @@ static int replace(const char *errors, struct input *left, uint8_t **output)
     return 1;
 }
 
-// The text of a part up to where another handler has to be asked, and that place. For `strict` it
-// is empty, since then nobody gets it.
+// Decodes a part up to the first byte for which `replace` returns 0, and sets `place` to its offset.
+// For `strict` the text is empty, since an exception follows.
 static PyObject *front(const struct part *part, const char *errors, Py_ssize_t *place)
 {
     struct input left = between(part->data, part->start, part->stop);
     int is_strict = strcmp(errors, "strict") == 0, has_surrogates = strncmp(errors, "surr", 4) == 0;
-    // How many bytes at most come from one.
+    // The most bytes of output for one byte of input.
     size_t widest = strcmp(errors, "backslashreplace") == 0 ? 4
         : strcmp(errors, "surrogateescape") == 0            ? 3
                                                             : !is_strict;
@@ -245,7 +250,8 @@ static PyObject *front(const struct part *part, const char *errors, Py_ssize_t *
     return text;
 }
 
-// The text of a part up to where a handler of a user's own has to be asked, and that place.
+// Decodes a part, up to the first byte for which a handler must be called or an exception raised, and
+// sets `place` to its offset, or to the end of the part.
 static PyObject *decoded(
     const struct part *part, int is_lenient, const char *errors, Py_ssize_t *place)
 {
@@ -253,14 +259,15 @@ static PyObject *decoded(
     uint8_t few[FEW], *buffer = few;
     int is_lossy = strcmp(errors, "replace") == 0;
     writes *call = DECODES[part->is_mutf8][is_lenient][is_lossy];
-    // Where surrogate pairs are, a buffer is needed, so to count first would only take longer.
+    // Counting first pays if the input may be ASCII or otherwise unchanged, so that no buffer is
+    // needed. If surrogate pairs (ED) are near the start, it would only take longer.
     int is_counted = is_lossy || input.length <= FEW || memchr(input.bytes, 0xED, FEW) == NULL;
     struct cesu8_answer answer = {CESU8_TOO_SMALL, input.length};
     if (is_counted)
         answer = run(call, input, part->is_held, few, sizeof few);
     *place = part->stop;
     if (answer.status == CESU8_TOO_SMALL) {
-        // Each character that another than a lossy call changes gets shorter, so here none does.
+        // Every change makes the text shorter unless the call is lossy, so here nothing changes.
         if (is_counted && !is_lossy && answer.length == input.length)
             return text_of(input.bytes, input.length);
         buffer = PyMem_Malloc(answer.length);
@@ -275,7 +282,7 @@ static PyObject *decoded(
     return is_whole ? text : front(part, errors, place);
 }
 
-// The text of a part, or what an error handler makes of it, and where that ends.
+// Decodes a part with an error handler, and sets `place` to the offset at which decoding ended.
 static PyObject *text_by(
     const struct part *part, int is_lenient, const char *errors, Py_ssize_t *place)
 {
@@ -301,7 +308,7 @@ static PyObject *text_by(
     return text;
 }
 
-// What a call makes of a text, or an error handler of its surrogates.
+// Encodes a text with this call, or with an error handler if the text contains surrogates.
 static PyObject *bytes_by(writes *call, int is_mutf8, PyObject *text, const char *errors)
 {
     PyObject *utf8 = PyUnicode_AsUTF8String(text), *result = NULL;
@@ -315,7 +322,7 @@ static PyObject *bytes_by(writes *call, int is_mutf8, PyObject *text, const char
     uint8_t few[FEW];
     struct input input = between(utf8, 0, PyBytes_Size(utf8));
     struct cesu8_answer answer = run(call, input, 0, few, sizeof few);
-    // Each character that a call changes gets longer, so here none does.
+    // Every change makes the encoding longer, so here nothing changes.
     if (answer.length == input.length)
         return utf8;
     if (answer.status == CESU8_OK) {

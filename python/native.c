@@ -1,9 +1,10 @@
-// The package's calls, by what Python's interface has from 3.10 on. Nothing of this is proved.
+// The functions of the package, with Python's stable interface of 3.10. Nothing in this file is
+// proved.
 
 #define Py_LIMITED_API 0x030A0000
 #include "convert.h"
 
-// The place of a name, or of the null behind the names.
+// Returns the index of a name, or of the null after the names if it is not among them.
 static Py_ssize_t place_of(const char *const *names, PyObject *name)
 {
     Py_ssize_t place = 0;
@@ -14,8 +15,8 @@ static Py_ssize_t place_of(const char *const *names, PyObject *name)
 
 #define REFUSE(...) return PyErr_Format(PyExc_TypeError, __VA_ARGS__), 0
 
-// Finds the arguments of a call by their places and names. The first ones are needed, and where
-// `strings` has a bit they are strings. The result is 0 with an exception.
+// Parses the arguments of a call, by position and by name, into `found`. The first `needed` ones are
+// required. An argument whose bit in `strings` is set must be a string. Returns 0 with an exception.
 static int take(const char *const *names, int needed, int strings, PyObject *const *given,
     Py_ssize_t count, PyObject *keywords, PyObject **found)
 {
@@ -34,7 +35,7 @@ static int take(const char *const *names, int needed, int strings, PyObject *con
     return 1;
 }
 
-// What a string says, which has no NUL. The result is null with an exception.
+// Returns a string as a C string. If it contains a NUL, returns null with an exception.
 static const char *said(PyObject *string)
 {
     Py_ssize_t length;
@@ -50,7 +51,7 @@ static const char *handler(PyObject *errors)
     return errors == NULL ? "strict" : said(errors);
 }
 
-// Whether an encoding is MUTF-8, or -1 with an exception.
+// Returns 1 for a name of MUTF-8, 0 for one of CESU-8, and -1 with an exception for any other.
 static int is_mutf8(PyObject *encoding)
 {
     static const char *const SPELLINGS[8] = {
@@ -64,15 +65,15 @@ static int is_mutf8(PyObject *encoding)
     return -1;
 }
 
-// Bytes themselves, or a view of other data, which is sliced by the byte and copies nothing. Only
-// items of more bytes that are not in a row are copied.
+// Returns bytes objects as they are, and for other data a view that can be sliced by the byte. The
+// data is copied only if it is not contiguous and its items have several bytes.
 static PyObject *row_of(PyObject *data)
 {
     if (PyBytes_CheckExact(data))
         return Py_NewRef(data);
     PyObject *view = PyMemoryView_FromObject(data), *size = attribute(view, "nbytes"), *row = view;
     if (size != NULL && PyLong_AsSsize_t(size) != PyObject_Size(view)) {
-        // Without dimensions there is no length.
+        // A view without dimensions has no length: that exception is dropped.
         PyErr_Clear();
         PyObject *cast = attribute(view, "cast");
         row = cast == NULL ? NULL : PyObject_CallFunction(cast, "s", "B");
@@ -89,7 +90,7 @@ static PyObject *row_of(PyObject *data)
     return row;
 }
 
-// Takes a part of MUTF-8 out of what row_of gives. The result is 0 with an exception.
+// Sets `part` to a part of the MUTF-8 that row_of returned. Returns 0 with an exception.
 static int cut_out(PyObject *row, Py_ssize_t start, Py_ssize_t stop, struct part *part)
 {
     if (PyBytes_CheckExact(row)) {
@@ -103,7 +104,8 @@ static int cut_out(PyObject *row, Py_ssize_t start, Py_ssize_t stop, struct part
     return part->data != NULL;
 }
 
-// Takes out the string whose count is at a place of the row. The result is 0 with an exception.
+// Sets `string` to the bytes of the string whose count is at offset `start`. Returns 0 with an
+// exception.
 static int cut_string(PyObject *row, Py_ssize_t start, struct part *string)
 {
     struct part count;
@@ -175,7 +177,7 @@ CALL(read_utf)
         PyErr_Format(PyExc_ValueError, "start is %R, and the data has %zd bytes", with[1],
             PyObject_Size(row));
     is_there = is_there && cut_string(row, start, &string);
-    // A handler may change the data, so nothing holds on to it.
+    // An error handler may change the data, so the view is released first.
     Py_DECREF(row);
     if (!is_there)
         return NULL;
@@ -185,7 +187,7 @@ CALL(read_utf)
     return both(text, start + 2 + string.stop - string.start);
 }
 
-// What a codec does also tells how much is read.
+// A function of a codec also returns how much of the input it read.
 static PyObject *codec_encode(
     int is_mutf8, PyObject *const *given, Py_ssize_t count, PyObject *keywords)
 {
@@ -209,7 +211,7 @@ static PyObject *codec_decode(
     PyObject *data = errors == NULL || is_final < 0 ? NULL : bytes_of(with[0]);
     if (data == NULL)
         return NULL;
-    // In such a view a caller's bytearray may be held.
+    // Python passes a view if it holds a caller's bytearray locked during the call.
     length = PyBytes_Size(data);
     struct part part = {data, 0, length, length, is_mutf8, PyMemoryView_Check(with[0])};
     if (!is_final)
@@ -225,7 +227,7 @@ CODEC(cesu_8_decode, codec_decode, 0)
 CODEC(mutf_8_encode, codec_encode, 1)
 CODEC(mutf_8_decode, codec_decode, 1)
 
-// next_text(is_mutf8, data, start, stop): the whole characters in front of these bytes.
+// next_text(is_mutf8, data, start, stop): decodes the valid prefix of these bytes.
 static PyObject *next_text(PyObject *Py_UNUSED(module), PyObject *arguments)
 {
     struct part part = {NULL, 0, 0, 0, 0, 0};
@@ -237,7 +239,8 @@ static PyObject *next_text(PyObject *Py_UNUSED(module), PyObject *arguments)
     return both(text, place);
 }
 
-// next_error(is_mutf8, data, place, end): the exception for the byte there, which is in none.
+// next_error(is_mutf8, data, place, end): the exception for the byte at `place`, which is not part of
+// a character.
 static PyObject *next_error(PyObject *Py_UNUSED(module), PyObject *arguments)
 {
     PyObject *data;
@@ -255,7 +258,7 @@ CALL(decoded_len)
     if (data == NULL)
         return NULL;
     struct input input = between(data, 0, PyBytes_Size(data));
-    // Without a buffer this counts.
+    // With an empty buffer the call only returns the length.
     struct cesu8_answer answer = run(DECODES[encoding][0][0], input, 0, NULL, 0);
     Py_DECREF(data);
     return answer.status == CESU8_INVALID ? Py_NewRef(Py_None) : PyLong_FromSize_t(answer.length);
@@ -298,33 +301,34 @@ static PyMethodDef METHODS[] = {
         "another encoding."),
     METHOD(decode, "(data, encoding, errors='strict', lenient=False)\n--\n\n"
         "Decode bytes of `cesu-8` or `mutf-8`, as `data.decode(encoding, errors)` does.\n\n"
-        "With `lenient`, data that is UTF-8 as a whole is decoded as UTF-8. Only other data has\n"
-        "to be of the encoding.\n\n"
-        "Raises UnicodeDecodeError for damage. Its `start` is the first byte in no encoded\n"
-        "character. Raises LookupError for another encoding."),
+        "With `lenient`, data that is UTF-8 as a whole is decoded as UTF-8. Only other data must\n"
+        "be in the encoding.\n\n"
+        "Raises UnicodeDecodeError for damage. Its `start` is the first byte that is not part of\n"
+        "an encoded character. Raises LookupError for another encoding."),
     METHOD(decoded_len, "(data, encoding)\n--\n\n"
-        "Tell how many bytes of UTF-8 the text has whose `cesu-8` or `mutf-8` the data is, or\n"
-        "None where it is the encoding of no text.\n\n"
-        "So `decoded_len(...) is not None` tests data. Raises LookupError for another encoding."),
+        "Return the length in UTF-8 of the text that the data in `cesu-8` or `mutf-8` decodes to,\n"
+        "or None if the data is not the encoding of any text.\n\n"
+        "So `decoded_len(...) is not None` tests whether data is valid. Raises LookupError for\n"
+        "another encoding."),
     METHOD(utf16_len, "(text)\n--\n\n"
         "Count the UTF-16 code units of a text, as `len` of a string in JavaScript does.\n\n"
         "Raises UnicodeEncodeError for surrogates, which are in no text."),
     METHOD(compare_as_utf16, "(text, other)\n--\n\n"
         "Compare two texts by their UTF-16 code units, as Java and JavaScript do: -1, 0 or 1 as\n"
         "the first is less, equal or greater.\n\n"
-        "`functools.cmp_to_key` makes a key of it, to sort by. Raises UnicodeEncodeError for\n"
-        "surrogates, which are in no text."),
+        "`functools.cmp_to_key` makes a sort key of it. Raises UnicodeEncodeError for surrogates,\n"
+        "which are in no text."),
     METHOD(write_utf, "(text, errors='strict')\n--\n\n"
-        "Write a text as Java's `DataOutput.writeUTF` does: the count of its bytes of MUTF-8, in\n"
-        "two bytes, and then these.\n\n"
+        "Write a text as Java's `DataOutput.writeUTF` does: the number of its bytes in MUTF-8, as\n"
+        "two bytes, and then these bytes.\n\n"
         "Raises OverflowError if there are more than 65,535, and UnicodeEncodeError for\n"
         "surrogates."),
     METHOD(read_utf, "(data, start=0, errors='strict')\n--\n\n"
-        "Read the string at `start` that Java's `DataOutput.writeUTF` wrote: its text and the\n"
-        "place behind it.\n\n"
+        "Read the string at `start` that Java's `DataOutput.writeUTF` wrote. Returns its text and\n"
+        "the offset after it.\n\n"
         "Raises EOFError if the data ends within the string, ValueError if `start` is not in the\n"
-        "data, and UnicodeDecodeError for damage, with its place in the whole data; or in the\n"
-        "bytes of the string, of which alone it has a copy, if the data is not of bytes."),
+        "data, and UnicodeDecodeError for damage. Its `start` is an offset in the whole data. If\n"
+        "the data is not a bytes object, it is an offset in a copy of the string's bytes."),
     METHOD(cesu_8_encode, "(input, errors='strict')\n--\n\n"),
     METHOD(cesu_8_decode, "(input, errors='strict', final=True)\n--\n\n"),
     METHOD(mutf_8_encode, "(input, errors='strict')\n--\n\n"),
@@ -334,8 +338,8 @@ static PyMethodDef METHODS[] = {
     {NULL, NULL, 0, NULL},
 };
 
-// From 3.12 on, a slot of the number 3 and the value 2 says that the module works in interpreters
-// with a lock of their own.
+// The slot Py_mod_multiple_interpreters (3) with the value 2 says that the module supports
+// interpreters with a lock of their own. Python has it from 3.12 on.
 static PyModuleDef_Slot SLOTS[] = {{3, (void *)2}, {0, NULL}};
 static struct PyModuleDef MODULE = {
     .m_base = PyModuleDef_HEAD_INIT, .m_name = "_native", .m_methods = METHODS, .m_slots = SLOTS,

@@ -1,5 +1,5 @@
 #!/usr/bin/env python3
-"""Writes the wheel of the Python package, whose module in C holds the static library of a release:
+"""Writes the wheel of the Python package. Its module in C contains the static library of a release:
 
     SOURCE_DATE_EPOCH=SECONDS wheel.py RELEASE FOLDER
 
@@ -53,25 +53,25 @@ Description-Content-Type: text/markdown
 
 
 def is_for_aarch64(release: Path) -> bool:
-    """Whether the shared object is, by the machine in its head (183 by the ELF specification)."""
+    """Whether the release is for aarch64: e_machine in the shared object's ELF header is 183."""
     shared = next((release / "lib").glob("libcesu8.so.*"))
     return int.from_bytes(shared.read_bytes()[18:20], "little") == 183
 
 
 def x86_64() -> list[str]:
-    """The C compiler with its flags. The loader refuses the module before x86-64-v2."""
+    """The C compiler with its flags. The module requires x86-64-v2, which the loader checks."""
     return ["cc", "-Wl,-z,x86-64-v2", "-isystem", sysconfig.get_path("include")]
 
 
 def aarch64() -> list[str]:
-    """The same for aarch64. Debian's pyconfig.h includes another, by a path from usr/include."""
+    """The compiler for aarch64. Debian's pyconfig.h includes another one, relative to usr/include."""
     folder = Path(os.environ["AARCH64_ROOT"], "usr", "include")
     header = next(folder.glob("python3.*/Python.h"))
     return [os.environ["AARCH64_CC"], "-isystem", str(header.parent), "-idirafter", str(folder)]
 
 
 def module(release: Path, compiler: list[str]) -> bytes:
-    """The module in C."""
+    """Compiles the module in C."""
     with tempfile.TemporaryDirectory() as folder:
         path = Path(folder, "module.so")
         command = [*compiler, "-std=c11", "-O2", "-fPIC", "-falign-functions=32", "-DNDEBUG"]
@@ -85,14 +85,14 @@ def module(release: Path, compiler: list[str]) -> bytes:
 
 
 def c_library(module: bytes) -> str:
-    """The newest version of the GNU C library that the module names."""
+    """The newest version of the GNU C library whose symbols the module uses."""
     versions = re.findall(rb"GLIBC_([0-9.]+)\0", module)
     return max(versions, key=lambda version: [int(part) for part in version.split(b".")]).decode()
 
 
 def tag(is_aarch64: bool, needed: str) -> str:
-    """Each Python from 3.10 on loads the module, and by manylinux_2_17 each C library from 2.17 on.
-    The tag for x86-64 has no manylinux, which promises that any x86-64 will do."""
+    """The wheel's tag. Every Python from 3.10 on loads the module. manylinux_2_17 means every C
+    library from 2.17 on. The tag for x86-64 is not manylinux, which promises any x86-64 processor."""
     if not is_aarch64:
         return "cp310-abi3-linux_x86_64"
     is_old = [int(part) for part in needed.split(".")] <= [2, 17]
@@ -123,7 +123,7 @@ def metadata(version: str, needed: str, names: list[str]) -> bytes:
 
 
 def record(files: dict[str, bytes], name: str) -> bytes:
-    """The list of all files with their sums. It has none of its own."""
+    """The list of all files with their hashes. The line for the list itself has none."""
     lines = []
     for path, content in sorted(files.items()):
         digest = base64.urlsafe_b64encode(hashlib.sha256(content).digest()).rstrip(b"=")

@@ -2,16 +2,16 @@
 # Builds the release, for users without the kit:
 #   dist.sh FOLDER
 # FOLDER gets cesu8-VERSION-x86_64-linux.tar.gz, with the library for C and the programs, and
-# SHA256SUMS, with the sum of each file that is made. It first proves what is not yet proved. Two runs
-# on one commit give the same bytes, with the same kit and C compiler: names are sorted, times are the
+# SHA256SUMS, with the hash of each file. The script first proves what is not yet proved. Two runs on
+# one commit produce the same bytes, with the same kit and C compiler: names are sorted, times are the
 # commit's, and owners are 0. BUILT-FROM in the archive says what it was built from and what it needs.
 #
-# Where dpkg-deb is there, FOLDER gets the Debian packages too, by packages.sh. Where python3 is there, it gets
-# the Rust crates, by rust/pack.sh, and with its header, as python3-dev of Debian has it, the wheel, by
-# python/wheel.py.
+# If dpkg-deb is installed, FOLDER also gets the Debian packages, by packages.sh. If python3 is
+# installed, it gets the Rust crates, by rust/pack.sh, and, if Python.h is too (Debian's python3-dev),
+# the wheel, by python/wheel.py.
 #
-# Where the tools are there that tests/cross.sh names, FOLDER gets the same for aarch64, without the
-# programs, since the kit has the parts in C of programs for x86-64 alone.
+# If the tools that tests/cross.sh names are installed, FOLDER gets all of this for aarch64 too, except
+# the programs: the kit has the C parts of programs only for x86-64.
 #
 # It needs the kit's `rt`, git, a C compiler `cc` with GNU ld 2.36 or later, ar, ld, nm, objcopy,
 # objdump, strip, GNU tar, gzip, bash, awk, grep, sed and the core utilities.
@@ -47,7 +47,7 @@ name=cesu8-$version-x86_64-linux
 commit=$(git -C "$top" rev-parse HEAD)
 seconds=$(git -C "$top" log -1 --format=%ct)
 day=$(date -u -d "@$seconds" +%F)
-# A source that git does not know is built in too.
+# Sources that git does not track would be built in too.
 changed=$(git --no-optional-locks -C "$top" status --porcelain --untracked-files=no
     git --no-optional-locks -C "$top" status --porcelain --untracked-files=normal -- crates)
 changes=${changed:+, with changes that are not committed}
@@ -58,7 +58,7 @@ trap 'rm -rf "$scratch"' EXIT
 release=$scratch/$name
 # The files that FOLDER gets, by name.
 made=("$name.tar.gz")
-# The same for aarch64: the name, and the folder in which its library is built.
+# For aarch64: the name of the archive, and the folder in which the library is built.
 cross_name=cesu8-$version-aarch64-linux
 cross_library=$scratch/aarch64
 has_cross=''
@@ -70,9 +70,9 @@ source "$top/tests/python_header.sh"
 # shellcheck source=tests/cross.sh
 source "$top/tests/cross.sh"
 
-# Puts a file into the release, with the version and the commit's day in place of their names:
-# `fill FILE TO`. `program_lines` tells what becomes of lines about the programs, and `others` are processors
-# that the library is not for.
+# Copies a file to the release and replaces its placeholders, such as @VERSION@: `fill FILE TO`.
+# `program_lines` is the sed script for the lines about the programs, and `others` are the processors
+# that the library is not built for.
 program_lines='/^@PROGRAM@$/d; /^@END@$/d'
 others='aarch64|arm64|ARM64'
 fill() {
@@ -81,9 +81,9 @@ fill() {
         $program_lines" "$top/release/package/$1" >"$release/$2"
 }
 
-# The shared object shows the calls of the header alone: not the code for each level, which the
-# calls choose from, nor what the code calls: `link_shared FOLDER COMPILER FLAG..`, the folder of the
-# static library.
+# Links the static library in a folder as a shared object there: `link_shared FOLDER COMPILER FLAG..`.
+# It exports only the calls of the header: neither the code for each level nor the functions that this
+# code calls.
 link_shared() {
     local folder=$1
     shift
@@ -95,7 +95,7 @@ link_shared() {
     ln -s "libcesu8.so.$major" "$folder/libcesu8.so"
 }
 
-# The program for files and streams, which the gate names if it has proved it: `build_conv`.
+# Sets `conv` to the program for files and streams. It is built here unless the gate has proved it.
 build_conv() {
     conv=${PROVED_CESU8CONV:-$top/crates/cesu8conv/out/cesu8conv}
     [[ -z ${PROVED_CESU8CONV-} ]] || return 0
@@ -106,7 +106,8 @@ build_conv() {
     fi
 }
 
-# The man page of the calls, which the header's comments make, and for each call one that leads to it.
+# Writes the man page of the calls, made from the header's comments, and for each call a page that
+# includes it.
 write_call_pages() {
     local call folder=$release/share/man/man3
     mkdir -p "$folder"
@@ -117,15 +118,15 @@ write_call_pages() {
     done < <(sed -n 's/^    \(cesu8_[a-z0-9_]*\);$/\1/p' "$top/release/package/cesu8.map")
 }
 
-# The pages of the repository that the release has, and what is in it of the names that they link to.
+# The pages that are copied to the release, and the names in it to which their links can lead.
 pages=(docs/C.md docs/PROGRAM.md CHANGELOG.md SECURITY.md)
 there=" README.md cesu8.h ${pages[*]##*/} "
 
-# A page, without each sentence with a link to what is not in the release. Another link becomes its text,
-# and the path of the program is that of an installed one: `page FILE`.
+# Copies a page: `page FILE`. A sentence with a link to a page that is not in the release is dropped,
+# and other links become their texts. The path of the program becomes that of an installed one.
 page() {
     awk -v there="$there" '
-        # A sentence with the text of its links, or nothing.
+        # Returns a sentence with the texts of its links, or nothing if it is dropped.
         function without_links(sentence,    link, target, text) {
             while (match(sentence, /\[[^]]*\]\([^)]*\)/)) {
                 link = substr(sentence, RSTART + 1, RLENGTH - 2)
@@ -165,8 +166,8 @@ c_library() {
     objdump -T "$1" | grep -o 'GLIBC_[0-9.]*' | sed 's/^GLIBC_//' | sort -Vu | tail -n 1
 }
 
-# The lines of BUILT-FROM for a processor: `built_for PROCESSOR NEEDS COMPILER FILE..`, the files that
-# need the C library.
+# Prints the lines of BUILT-FROM for a processor: `built_for PROCESSOR NEEDS COMPILER FILE..`. The
+# FILEs are those that need the C library.
 built_for() {
     local processor=$1 file
     echo "$processor needs $2"
@@ -194,7 +195,7 @@ pack() {
         gzip -n -9 >"$folder/$name.tar.gz"
 }
 
-# The release for aarch64 has what that for x86-64 has, with another library and without the programs.
+# Makes the release for aarch64 from that for x86-64: with another library and without the programs.
 make_cross() {
     local release=$scratch/$cross_name name=$cross_name others='x86_64|amd64|AMD64'
     local program_lines='/^@PROGRAM@$/,/^@END@$/d'
@@ -214,7 +215,7 @@ make_cross() {
     fi
 }
 
-# This comes first, so that the code for x86-64-v2 stays in out/.
+# The build for aarch64 comes first, so that out/ holds the code for x86-64-v2 at the end.
 if missing=$(can_cross); then
     has_cross=yes
     build_cross
@@ -228,7 +229,7 @@ cp "$program" "$release/bin/cesu8_cli"
 cp "$conv" "$release/bin/cesu8conv"
 sh "$crate/archive.sh" "$release/lib/libcesu8.a"
 strip -D --strip-unneeded "$release/lib/libcesu8.a"
-# The loader refuses it on a processor before x86-64-v2.
+# The flag makes the loader reject the library on processors older than x86-64-v2.
 link_shared "$release/lib" cc -Wl,-z,x86-64-v2
 cp "$crate/include/cesu8.h" "$release/include"
 strip -D --strip-unneeded "$release/bin"/* "$release/lib/libcesu8.so.$major"
@@ -249,7 +250,7 @@ for file in "${pages[@]}"; do
     page "$file"
 done
 cp "$top/LICENSE-APACHE" "$top/LICENSE-MIT" "$release"
-# The library contains code of this crate of the kit.
+# The library contains code of the kit's crate simdutf8.
 cp "$kit/rattle/simdutf8/LICENSE" "$release/LICENSE-simdutf8"
 {
     printf '%s\n' "cesu8 $version" "commit $commit$changes" "kit $identity"
@@ -263,8 +264,8 @@ find "$release" -type f -exec chmod 644 {} +
 chmod 755 "$release/bin"/* "$release/"*install.sh "$release/examples/"*.sh
 pack
 
-# Makes more of the release, where the tool for it is there, by a script that prints what it has made:
-# `make_more TOOL WHAT SCRIPT`.
+# Makes another part of the release if its tool is installed: `make_more TOOL WHAT SCRIPT`. The script
+# prints the names of the files that it makes.
 make_more() {
     local names
     if ! command -v "$1" >/dev/null; then

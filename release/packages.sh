@@ -1,13 +1,13 @@
 #!/usr/bin/env bash
-# Builds the Debian packages of a release, for handing out:
+# Builds the Debian packages of a release:
 #   SOURCE_DATE_EPOCH=SECONDS packages.sh RELEASE FOLDER
-# RELEASE is the folder that the archive of dist.sh holds, and its install.sh places the files. FOLDER
-# gets libcesu8-1, by the first number of the version, with the shared object; libcesu8-dev with what a
-# build needs; and cesu8-tools with the programs, where RELEASE has them. The names of all are printed. They
-# are for amd64 or arm64, as the shared object is.
+# RELEASE is the unpacked archive of dist.sh; its install.sh determines the place of each file. FOLDER
+# gets libcesu8-1, named after the first number of the version, with the shared object; libcesu8-dev,
+# with what a build needs; and cesu8-tools, with the programs, if RELEASE has them. The script prints
+# their names. They are for amd64 or arm64, like the shared object.
 #
-# The maintainer is DEBFULLNAME with DEBEMAIL, or the author of the last commit. Two runs give the same
-# bytes, with the same dpkg-deb and gzip: times are SOURCE_DATE_EPOCH, and owners are root.
+# The maintainer is DEBFULLNAME with DEBEMAIL, or the author of the last commit. Two runs produce the
+# same bytes, with the same dpkg-deb and gzip: times are SOURCE_DATE_EPOCH, and owners are root.
 #
 # It needs dpkg-deb, md5sum, objdump, gzip, git, bash, awk, grep, sed, find and the core utilities.
 set -euo pipefail
@@ -39,8 +39,8 @@ fail() {
     exit 1
 }
 
-# Debian's name of the architecture for which the shared object is, and of the folder of its libraries, by
-# the machine in the object's head (62 and 183 by the ELF specification).
+# Debian's names of the architecture and of its library folder, by e_machine in the ELF header of the
+# shared object (62 and 183).
 case $(od -An -tu2 -j18 -N2 "$release/lib/libcesu8.so.$major" | tr -d ' ') in
     62) architecture=amd64 triplet=x86_64-linux-gnu ;;
     183) architecture=arm64 triplet=aarch64-linux-gnu ;;
@@ -48,7 +48,7 @@ case $(od -An -tu2 -j18 -N2 "$release/lib/libcesu8.so.$major" | tr -d ' ') in
 esac
 libdir=usr/lib/$triplet
 
-# Moves files of the installed release to a package, and fails where one is missing: `take PACKAGE PATH..`.
+# Moves files of the installed release to a package, and fails if one is missing: `take PACKAGE PATH..`.
 take() {
     local package=$scratch/$1 path
     shift
@@ -58,7 +58,7 @@ take() {
     done
 }
 
-# Moves pages and examples to a package's own folder for them: `take_pages PACKAGE NAME..`.
+# Moves pages and examples to the package's own documentation folder: `take_pages PACKAGE NAME..`.
 take_pages() {
     local target=$scratch/$1/usr/share/doc/$1 name
     shift
@@ -72,7 +72,8 @@ has_programs() {
     [[ -d $release/bin ]]
 }
 
-# Installs the release, and splits it. What is left over is in no package on purpose, and is listed.
+# Installs the release, and distributes its files to the packages. The files that are in none on
+# purpose are listed, and it is an error if others remain.
 split() {
     mkdir "$all"
     DESTDIR=$all sh "$release/install.sh" /usr "lib/$triplet" >/dev/null
@@ -83,20 +84,20 @@ split() {
         take cesu8-tools usr/bin usr/share/man usr/share/bash-completion
         take_pages cesu8-tools PROGRAM.md
     fi
-    # The licences are in `copyright`, and the archive's own page is about the archive.
+    # The licences are in `copyright`, and README.md describes the archive.
     (cd "$all/usr/share/doc/cesu8" && rm -f LICENSE-* README.md)
     diff <(printf '%s\n' BUILT-FROM CHANGELOG.md SECURITY.md) \
         <(cd "$all" && find . -not -type d -printf '%f\n' | sort) >&2 ||
         fail 'these files of the release belong to no package'
 }
 
-# The page of licences, with the text of the MIT licence, whose blank lines have a dot there.
+# Writes `copyright`, with the text of the MIT licence, whose blank lines become dots.
 copyright() {
     cat "$templates/copyright"
     sed -n '/^Permission/,$p' "$release/LICENSE-MIT" | sed 's/^$/./; s/^/ /'
 }
 
-# The changes, in Debian's form.
+# Writes the changelog in Debian's format.
 changelog() {
     cat <<CHANGES
 cesu8 ($debian) unstable; urgency=medium
@@ -107,7 +108,7 @@ cesu8 ($debian) unstable; urgency=medium
 CHANGES
 }
 
-# What is in each package: `add_common PACKAGE`.
+# Adds the files that each package has: `add_common PACKAGE`.
 add_common() {
     local target=$scratch/$1/usr/share/doc/$1 from=$all/usr/share/doc/cesu8
     mkdir -p "$target"
@@ -117,7 +118,7 @@ add_common() {
     cp "$from/BUILT-FROM" "$from/SECURITY.md" "$target"
 }
 
-# What programs or a shared object need, as Debian has it: `depends FILE..`.
+# The dependencies of programs or a shared object, in Debian's format: `depends FILE..`.
 depends() {
     local needed
     while read -r needed; do
@@ -130,7 +131,8 @@ depends() {
         sort -Vu | tail -n 1))"
 }
 
-# The names that the shared object shows, each with the release that its node of the version map names.
+# Writes the symbols file: the names that the shared object exports, each with the version of its node
+# in the version map.
 symbols() {
     echo "libcesu8.so.$major $library"
     echo '* Build-Depends-Package: libcesu8-dev'
@@ -139,7 +141,7 @@ symbols() {
         sed -n 's/^\(.*@CESU8_\([0-9.]*\)\)$/ \1 \2.0/p'
 }
 
-# Builds one package: `pack TEMPLATE PACKAGE [FILE..]`. The FILEs in it need others.
+# Builds one package: `pack TEMPLATE PACKAGE [FILE..]`. Its dependencies are those of the FILEs.
 pack() {
     local tree=$scratch/$2 control=$scratch/$2/DEBIAN size files=("${@:3}")
     add_common "$2"

@@ -3,10 +3,10 @@
 # that its crates.txt lacks:
 #   vendor.sh FOLDER >>FOLDER/crates.txt
 # FOLDER is the top of that repository. It gets the code, the definitions and the proofs of
-# `simd_cesu8`, `java_text` and `cesu8_stream`, and of the crates here that they stand on, with the
-# licences, the version, and a .gitignore for what `rt` makes there. Neither tests, with which a
-# crate is proved twice, nor wrong bodies are copied. An earlier copy is replaced, except its folder
-# out. It needs bash, awk, sed, grep and the core utilities, but no `rt`.
+# `simd_cesu8`, `java_text` and `cesu8_stream`, and of the crates here on which they depend, with the
+# licences, the version, and a .gitignore for what `rt` writes there. Tests are not copied, since a
+# crate with tests is proved twice, and neither are the wrong bodies in must-fail. An earlier copy is
+# replaced, except its folder out. It needs bash, awk, sed, grep and the core utilities, but no `rt`.
 set -euo pipefail
 unset CDPATH
 export LC_ALL=C
@@ -18,7 +18,7 @@ fail() {
     exit 2
 }
 
-# These crates and those here that they stand on, in the order of crates.txt: `closure CRATE..`.
+# Prints these crates and their dependencies here, in the order of crates.txt: `closure CRATE..`.
 closure() {
     sed 's/#.*//' "$top/crates.txt" | awk -F ':' -v wanted="$*" '
         NF == 2 {
@@ -40,7 +40,7 @@ closure() {
     '
 }
 
-# Drops the tests of a file: what follows their attribute, up to a line with its closing brace.
+# Removes the tests of a file: from their attribute to the line with the closing brace.
 without_tests() {
     awk '
         /^#\[cfg\(test\)\]$/ { is_test = 1 }
@@ -63,7 +63,7 @@ fi
 target=$(cd "$1" && pwd -P)
 [[ $target != "$top" ]] || fail "$1 is this repository"
 
-# Crates lie in the folder crates, or beside a crates.txt that is in use where there is none.
+# Crates are in the folder crates. If there is none, they are beside a crates.txt that is not empty.
 crates=$target
 if [[ -d $target/crates || ! -s $target/crates.txt ]]; then
     crates=$target/crates
@@ -75,7 +75,7 @@ for library in "${libraries[@]}"; do
         fail "$copy is there, and is no copy that vendor.sh made"
     fi
 done
-# A last line without an end gets one.
+# If the last line does not end in a newline, one is printed first.
 [[ ! -s $target/crates.txt || -z $(tail -c 1 "$target/crates.txt") ]] || echo
 for library in "${libraries[@]}"; do
     copy=$crates/$library

@@ -48,6 +48,7 @@ RULES = {
     "vector width": "an item for vectors of any width says that the machine has that width",
     "constant lanes": "the positions of a shuffle are a constant for `rustc` too",
     "load at": "a load or store at an offset tests its bounds once, not a slice's and a vector's",
+    "load before": "a load before an offset first tests the offset, as a load there has done before",
     "part": "a range is in bounds, and a panic that tells where one is not is much code",
     "array by reference": "`rustc` takes an array of 16 bytes that it passes apart byte by byte",
     "as_chunks": "it came with Rust 1.88, and the crate is for 1.85",
@@ -334,6 +335,11 @@ class Eraser:
                 self.use("load at")
                 borrow = "&" if load else "&mut "
                 offset = inside(name + 2, end - 1)
+                before = re.fullmatch(r"(\w+) - (\w+)", offset)
+                if load and before:
+                    self.use("load before")
+                    arguments = f"&{tokens[name]}[..], {before[1]}, {before[2]}"
+                    return end + 2, f"from_slice_before({arguments})"
                 return end + 2, f"{tokens[at]}_at({borrow}{tokens[name]}[..], {offset})"
         if tokens[at] == "&":
             return self.part(tokens, at, inside)
@@ -592,18 +598,20 @@ class Eraser:
         return re.sub(r"\n{3,}", "\n\n", text).lstrip("\n")
 
     def tables(self, text, module):
-        """Makes constants of arrays static if each use of them in the file borrows them.
+        """Makes constants of arrays, written or expanded from a macro, static if each use of them in
+        the file borrows them.
 
         `table!` of a level defines the static, or imports that of another level, for which modules
         are visible in the crate.
         """
-        for name in re.findall(r"^const (\w+): [^=]*= \[", text, re.M):
+        array = r"= (?:\[|\w+!\()"
+        for name in re.findall(rf"^const (\w+): [^=]*{array}", text, re.M):
             code = re.sub(r"//[^\n]*", "", text)
             uses = len(re.findall(rf"\b{name}\b", code)) - 1
             if uses == len(re.findall(rf"&{name}\b", code)):
                 self.use("table")
                 text = re.sub(
-                    rf"((?:^(?:///|#\[).*\n)*)^const ({name}: [^=]*=[^;]*\[[^=]*;)$",
+                    rf"((?:^(?:///|#\[).*\n)*)^const ({name}: [^=]*{array}[^=]*?;)$",
                     rf"table! {{ ({module})\n\1static \2\n}}",
                     text,
                     flags=re.M,

@@ -1,12 +1,12 @@
 #!/bin/sh
-# Builds one archive with the code for x86-64-v2 and for x86-64-v3, with chooser.c, which picks one
-# of them as the program runs, and with plain.c:
+# Builds one archive with the code for x86-64-v2 and for x86-64-v3, with chooser.c, which chooses
+# between them at run time, and with plain.c:
 #   archive.sh [--target aarch64-unknown-linux-gnu] FILE.a
-# For aarch64 there is one level, ARMv8-A, to which chooser.c goes on.
+# For aarch64 there is one level, ARMv8-A, and chooser.c only calls it.
 #
-# It proves the crate and the libraries below it where that is not done, by as many jobs as PROOF_JOBS
-# says, or else as rt chooses. It needs the kit's rt, cc, ar, ld, objcopy and nm; for aarch64 the tools
-# that tests/cross.sh names.
+# It proves the crate and the libraries below it if they are not proved yet, with as many jobs as
+# PROOF_JOBS says, or else as rt chooses. It needs the kit's rt, cc, ar, ld, objcopy and nm; for
+# aarch64 the tools that tests/cross.sh names.
 set -eu
 unset CDPATH
 # The members of the archive have the same order everywhere.
@@ -41,7 +41,7 @@ fi
 archive=$1
 rm -f "$archive"
 
-# What rt is told of a level: `option LEVEL`.
+# The option of rt for a level: `option LEVEL`.
 option() {
     case $1 in
         v8) echo --target=aarch64-unknown-linux-gnu ;;
@@ -49,12 +49,12 @@ option() {
     esac
 }
 
-# rt gives each function and each table a section of its own, and they keep it, as do the calls of the
-# chooser. So a program that is linked with --gc-sections has only what its calls reach. Functions begin
-# at multiples of 32 bytes, or else what stands before a short call changes its time by a tenth. Rows of
-# tables begin at multiples of 16.
+# rt gives each function and each table a section of its own, and the archive keeps these sections. So
+# a program that is linked with --gc-sections contains only what its calls reach. Functions are
+# aligned to 32 bytes: otherwise the code before a short function changes its time by a tenth. Rows of
+# tables are aligned to 16.
 #
-# The code for x86-64-v2 comes last, and stays in out/, since it is what rt builds by default.
+# The code for x86-64-v2 is built last, so that out/ holds it: it is what rt builds by default.
 for level in $levels; do
     if ! (cd "$crate" && rt lib "$(option "$level")" ${PROOF_JOBS:+--jobs "$PROOF_JOBS"}) \
         >"$scratch/rt.log" 2>&1; then
@@ -64,7 +64,7 @@ for level in $levels; do
     mkdir "$scratch/$level"
     (cd "$scratch/$level" && ar x "$crate/out/libcesu8_c.a")
     ld -r -o "$scratch/$level.o" "$scratch/$level"/*.o
-    # Each export gets the level behind its name. What the code calls keeps its name.
+    # The level is appended to the name of each export. Functions that the code imports keep theirs.
     nm -g --defined-only "$scratch/$level.o" |
         awk -v level="$level" 'NF == 3 { print $3, $3 "_" level }' >"$scratch/$level/names"
     objcopy --redefine-syms="$scratch/$level/names" --set-section-alignment '.text*=32' \

@@ -1,11 +1,12 @@
-// The calls of the archive that archive.sh builds: each goes on to the code for x86-64-v3 where the
-// processor has it, and else to that for x86-64-v2. For aarch64 there is one level, ARMv8-A. This file
-// is plain C, and nothing of it is proved.
+// The calls of the archive that archive.sh builds. Each calls the code for x86-64-v3 if the processor
+// has that level, and otherwise the code for x86-64-v2. For aarch64 there is one level, ARMv8-A. This
+// file is plain C, and nothing in it is proved.
 //
-// What the processor has is asked once, by the compiler's runtime, before main begins; a call reads
-// what was found. A call that comes before that takes the code for x86-64-v2.
+// The compiler's runtime asks the processor once, before main begins, and each call reads what it
+// found. A call that comes earlier uses the code for x86-64-v2.
 //
-// The code of a level takes no null pointer, so a byte of this file stands for one of length 0.
+// The code of a level does not accept null pointers. So for a null pointer, whose length is 0, it gets
+// a pointer to a byte of this file.
 
 #include "cesu8.h"
 

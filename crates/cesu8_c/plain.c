@@ -1,11 +1,11 @@
-// The two calls of the archive that archive.sh builds which are no calls of Rattle's: they return a
-// text and the version of the library itself. This file is plain C, and nothing of it is proved.
+// The two calls of the archive that are not written in Rattle: the text of a status, and the version
+// of the library. archive.sh builds the archive. This file is plain C, and nothing in it is proved.
 
 #include "cesu8.h"
 
 const char *cesu8_status_text(uint32_t status)
 {
-    // Each is what the fault of that status prints in Rattle, or what the program prints.
+    // The same words as the error of that status displays in Rattle, or as cesu8_cli prints.
     switch (status) {
     case CESU8_OK:
         return "ok";

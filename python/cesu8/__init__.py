@@ -1,4 +1,4 @@
-r"""CESU-8 and Modified UTF-8 (MUTF-8), as codecs, and Java strings with their length in front.
+r"""CESU-8 and Modified UTF-8 (MUTF-8) as codecs, and length-prefixed Java strings.
 
 Importing this package registers the codecs `cesu-8` and `mutf-8`:
 
@@ -8,12 +8,12 @@ Importing this package registers the codecs `cesu-8` and `mutf-8`:
     >>> b"\xED\xA0\xBD\xED\xB2\x96".decode("cesu-8")
     '💖'
 
-`open(path, encoding="mutf-8")` and the incremental and stream classes of `codecs` know them too.
-They are strict: UTF-8 with a character of four bytes is damage, and in MUTF-8 a zero byte.
+`open(path, encoding="mutf-8")` and the incremental and stream classes of `codecs` work too. The
+codecs are strict: UTF-8 with a character of four bytes is damage, and so is a zero byte in MUTF-8.
 
-Every error handler works. A decoder calls it for each byte in no encoded character, so `replace`
-gives one U+FFFD for each. An encoder calls it for each run of surrogates. With `surrogatepass` a
-surrogate without a partner is a character of three bytes.
+Every error handler works. A decoder calls it for each byte that is not part of an encoded
+character, so `replace` returns one U+FFFD for each. An encoder calls it for each run of surrogates.
+With `surrogatepass` an unpaired surrogate is a character of three bytes.
 """
 
 from __future__ import annotations
@@ -34,7 +34,7 @@ from ._native import (
 if TYPE_CHECKING:
     from _typeshed import ReadableBuffer as Data
 else:
-    # What the calls read: these and all else that has bytes, for which Python 3.10 has no type.
+    # The functions read any object with the buffer protocol, for which Python 3.10 has no type.
     Data = Union[bytes, bytearray, memoryview]
 
 __version__ = "1.0.0"

@@ -1,4 +1,4 @@
-"""The codecs, and error handlers of a user's own, whom the module in C asks here."""
+"""The codecs, and the functions that call error handlers for the module in C."""
 
 from __future__ import annotations
 
@@ -17,14 +17,14 @@ except ImportError as error:
     ) from error
 
 _SURROGATES = re.compile("[\ud800-\udfff]+")
-# Python's own encoders hand the handler `surrogateescape` what it can't escape, by itself.
+# Python's own encoders pass surrogates that `surrogateescape` can't escape to it separately.
 _ESCAPED_OR_SURROGATES = re.compile("[\udc80-\udcff]+|[\ud800-\udfff]+")
 
 _ENCODE = {"cesu-8": _native.cesu_8_encode, "mutf-8": _native.mutf_8_encode}
 
 
 def encode_by_handler(encoding: str, text: str, errors: str) -> bytes:
-    """The encoding of a text with surrogates, for which an error handler speaks."""
+    """Encode a text with surrogates, each run of which an error handler replaces."""
     handler = _pass if errors == "surrogatepass" else codecs.lookup_error(errors)
     runs = _ESCAPED_OR_SURROGATES if errors == "surrogateescape" else _SURROGATES
     encode = _ENCODE[encoding]
@@ -47,7 +47,7 @@ def encode_by_handler(encoding: str, text: str, errors: str) -> bytes:
 
 
 def write_by_handler(encoding: str, text: str, errors: str) -> bytes:
-    """The encoding of such a text, behind the count of its bytes."""
+    """Encode a text with surrogates as `encode_by_handler` does, after the count of its bytes."""
     encoded = encode_by_handler(encoding, text, errors)
     if len(encoded) > 0xFFFF:
         raise OverflowError("the text has more than 65,535 bytes of MUTF-8")
@@ -64,9 +64,10 @@ def decode_by_handler(
     front: str,
     place: int,
 ) -> tuple[str, int]:
-    """The text of the bytes from `start` to `stop`, with an error handler called for each byte in
-    no encoded character, and where it ends. The first such byte is at `place`, behind what the
-    front is the text of. A handler may go back to `start`, and on up to `end`."""
+    """Decode the bytes from `start` to `stop`, and call an error handler for each byte that is not
+    part of an encoded character. Return the text and the offset at which it ends. The first such
+    byte is at `place`, and `front` is the text of the bytes before it. A handler may continue at
+    any offset from `start` to `end`."""
     handler = codecs.lookup_error(errors)
     is_mutf8 = encoding == "mutf-8"
     parts = [front]
@@ -75,7 +76,7 @@ def decode_by_handler(
         replacement, place = _handled(handler(error), str, error)
         parts.append(replacement)
         if error.object is not data:
-            # A handler may put other input in place of this, as with Python's own decoders.
+            # A handler may replace the input, as with Python's own decoders.
             data = memoryview(error.object).tobytes()
             start, stop, end = 0, len(data), len(data)
         place = _within(place, start, end)
@@ -86,14 +87,15 @@ def decode_by_handler(
 
 
 def _pass(error: UnicodeError) -> tuple[bytes, int]:
-    """What `surrogatepass` does, which knows Python's own encodings alone."""
+    """The handler `surrogatepass`. Python's own only works for Python's own encodings."""
     assert isinstance(error, UnicodeEncodeError)
     return error.object[error.start : error.end].encode("utf-8", "surrogatepass"), error.end
 
 
 def _handled(answer: Any, replaces: Any, error: UnicodeError) -> Any:
-    """What an error handler returned: a replacement and the place to go on at. As with Python's own
-    codecs, the place can be any integer, also one of NumPy's, which is no `int`."""
+    """Check what an error handler returned: a replacement and the offset at which to continue. As
+    with Python's own codecs, the offset can be any integer, for instance one of NumPy's, which is
+    not an `int`."""
     if isinstance(answer, tuple) and len(answer) == 2 and isinstance(answer[0], replaces):
         return answer[0], operator.index(answer[1])
     if isinstance(error, UnicodeDecodeError):
@@ -102,14 +104,14 @@ def _handled(answer: Any, replaces: Any, error: UnicodeError) -> Any:
 
 
 def _within(place: int, start: int, end: int) -> int:
-    """A place that an error handler returned, which may count from the end."""
+    """Check an offset that an error handler returned. A negative one counts from the end."""
     found = place + end if place < 0 else place
     if not start <= found <= end:
         raise IndexError(f"position {found} from error handler out of bounds")
     return found
 
 
-# These have places in this module, so that they can be pickled.
+# These classes are at the top level of the module, so that they can be pickled.
 class CESU8Encoder(codecs.IncrementalEncoder):
     def encode(self, input: str, final: bool = False) -> bytes:
         return _native.cesu_8_encode(input, self.errors)[0]
@@ -128,8 +130,8 @@ class MUTF8Decoder(codecs.BufferedIncrementalDecoder):
     _buffer_decode = staticmethod(_native.mutf_8_decode)
 
 
-# If a read brings nothing new, a stream is at its end, where a cut character is damage. Python's own
-# readers drop it.
+# If a read returns nothing new, the stream is at its end, and an incomplete character is damage.
+# Python's own readers drop it.
 class CESU8Reader(codecs.StreamReader):
     def decode(self, input: bytes, errors: str = "strict") -> tuple[str, int]:
         return _native.cesu_8_decode(input, errors, input == self.bytebuffer)
@@ -167,5 +169,5 @@ _MUTF8 = codecs.CodecInfo(
     streamwriter=MUTF8Writer,
 )
 
-# By names as Python hands them to a search function, where 'MUTF-8' comes as 'mutf_8'.
+# The names as Python passes them to a search function: 'MUTF-8' becomes 'mutf_8'.
 codecs.register({"cesu_8": _CESU8, "cesu8": _CESU8, "mutf_8": _MUTF8, "mutf8": _MUTF8}.get)

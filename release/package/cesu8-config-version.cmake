@@ -1,5 +1,5 @@
-# A version fits if its first number is the same and it is not older, and a range if it has this
-# version. The library is for 64 bits alone, and for one kind of processor.
+# A requested version is compatible if its first number is the same and it is not newer than this one,
+# and a range if it contains this one. The library is only for 64 bits, and for one processor family.
 set(PACKAGE_VERSION @VERSION@)
 set(PACKAGE_VERSION_COMPATIBLE FALSE)
 if(PACKAGE_FIND_VERSION_RANGE)
@@ -15,7 +15,7 @@ elseif(PACKAGE_FIND_VERSION_MAJOR EQUAL @MAJOR@ AND NOT PACKAGE_VERSION VERSION_
         set(PACKAGE_VERSION_EXACT TRUE)
     endif()
 endif()
-# A project with no language knows no size of a pointer.
+# A project without a language does not know the size of a pointer.
 if(CMAKE_SIZEOF_VOID_P AND NOT CMAKE_SIZEOF_VOID_P EQUAL 8)
     set(PACKAGE_VERSION "@VERSION@ (64 bits)")
     set(PACKAGE_VERSION_UNSUITABLE TRUE)

@@ -1,8 +1,8 @@
-# The targets cesu8::cesu8, the static library, and cesu8::shared, the shared object. They are found
-# from where this file is, so all can be moved together. A symbolic link on the way is resolved first:
-# where /lib is one to /usr/lib, the way up from it ends in / and not in /usr.
+# The targets cesu8::cesu8, the static library, and cesu8::shared, the shared object. Their paths are
+# relative to this file, so all can be moved together. Symbolic links in its path are resolved first: if
+# /lib is a link to /usr/lib, its parent folder must be /usr and not /.
 if(NOT TARGET cesu8::cesu8)
-    # The way up from the folder of the libraries.
+    # Up to the folder that contains the libraries.
     set(_cesu8_up ..)
     get_filename_component(_cesu8_folder "${CMAKE_CURRENT_LIST_DIR}" REALPATH)
     get_filename_component(_cesu8_libdir "${_cesu8_folder}/../.." ABSOLUTE)

@@ -1,7 +1,8 @@
-# Makes the man page of the calls from the header, whose comments say all of them:
+# Makes the man page of the calls from the header's comments:
 #   awk -v version=VERSION -v day=DAY -f cesu8.3.awk cesu8.h
 
-# What stands before the enum is for the compiler, and so are the lines in which directives begin.
+# The lines before the enum, and later preprocessor directives, are left out. The patterns are the first
+# words of the comments at which the parts of the header begin.
 /^enum cesu8_status/ { in_types = 1 }
 /^\/\/ Every input and every buffer/ { in_types = 0; in_words = 1 }
 /^\/\/ A number as a size_t/ { in_words = 0 }
@@ -16,7 +17,7 @@ in_lengths && /^#define/ {
     sub(/^#define /, "")
     sizes = sizes shown($0) "\n"
 }
-# A comment is about the calls below it.
+# A comment describes the calls after it.
 in_calls && /^\/\// { said = said paragraph($0) }
 in_calls && /^[A-Za-z ]/ {
     sub(/^CESU8_[A-Z_]* /, "")
@@ -38,7 +39,7 @@ END {
     print ".SH SEE ALSO\n.BR cesu8_cli (1),\n.BR cesu8conv (1)"
 }
 
-# Adds the calls that were read, and what was said of them. What is said of no call is left out.
+# Adds the calls that were read since the last blank line, with their description.
 function end_calls() {
     if (calls != "") {
         groups = groups ".PP\n.nf\n" calls ".fi\n.RS\n" said ".RE\n"
@@ -46,13 +47,13 @@ function end_calls() {
     }
 }
 
-# A line of a comment, where an empty one parts two paragraphs.
+# A line of a comment. An empty one separates two paragraphs.
 function paragraph(line) {
     sub(/^\/\/ ?/, "", line)
     return line == "" ? ".PP\n" : shown(line) "\n"
 }
 
-# A text as roff shows it.
+# Escapes a text for roff.
 function shown(text) {
     gsub(/\\/, "\\e", text)
     gsub(/-/, "\\-", text)

@@ -1,4 +1,4 @@
-# Completes cesu8_cli in bash: a command, and then its flavor, cesu8 or mutf8, which have no hyphen.
+# Completes cesu8_cli in bash: a command, and then its flavor, cesu8 or mutf8.
 _cesu8_cli() {
     local words=''
     case $COMP_CWORD in

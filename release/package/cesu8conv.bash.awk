@@ -1,5 +1,5 @@
-# Makes the completion for bash of what `cesu8conv --help` prints: the words that an argument can be, in the
-# order of the arguments, and the options.
+# Makes the completion for bash from what `cesu8conv --help` prints: for each argument the words that it
+# can be, and the options.
 
 /^Arguments:/ { part = "arguments"; next }
 /^Options:/ { part = "options"; next }

@@ -1,17 +1,17 @@
 #!/bin/sh
 # Installs the library, the programs and the pages from this folder, and prints each file:
 #   [DESTDIR=ROOT] ./install.sh PREFIX [LIBDIR]
-# LIBDIR is the folder for the libraries below PREFIX: lib, if it is left out, or for instance lib64 or
-# lib/x86_64-linux-gnu. It can also begin with PREFIX. What is installed names no other place, so
-# PREFIX can be moved afterwards. PREFIX/share/doc/cesu8/uninstall.sh takes all of it away again, by the
-# list beside it, INSTALLED, in which a second run keeps the lines of the first. The list is written first,
-# so that a run that fails on its way can be taken away too.
+# LIBDIR is the folder for the libraries below PREFIX, by default lib; for instance lib64 or
+# lib/x86_64-linux-gnu. It can also begin with PREFIX. No installed file names an absolute path, so
+# PREFIX can be moved afterwards. PREFIX/share/doc/cesu8/uninstall.sh removes all of it. It reads the
+# list INSTALLED beside it, to which another run adds its files. The list is written first, so that a
+# run that fails can be removed too.
 #
-# With DESTDIR, all goes below that folder instead, as for a package, and the file for pkg-config names
-# PREFIX, which is absolute then. There is no uninstall.sh then, since a package knows its files.
+# With DESTDIR, everything is installed below that folder instead, as for a package. Then PREFIX must be
+# absolute, since the file for pkg-config names it, and uninstall.sh is not installed, since the package
+# manager knows the files.
 #
-# The status is 2, and nothing is written, where the arguments are none of these. --help prints how it
-# is called.
+# If the arguments are wrong, the status is 2, and nothing is written. --help prints the usage.
 set -eu
 unset CDPATH
 export LC_ALL=C
@@ -34,7 +34,7 @@ for word in "$@"; do
     esac
 done
 
-# A folder's path from the root, with no slash at its end: `absolute FOLDER`.
+# Sets `path` to a folder's absolute path, without a slash at its end: `absolute FOLDER`.
 absolute() {
     case $1 in
         /*) path=$1 ;;
@@ -69,7 +69,7 @@ libdir=${libdir%/}
 case /$libdir/ in
     *//* | */./* | */../*) refuse 'LIBDIR has a part that is empty, . or ..' ;;
 esac
-# The way up from LIBDIR to PREFIX.
+# The relative path from LIBDIR to PREFIX.
 up=..
 rest=$libdir
 while [ "$rest" != "${rest#*/}" ]; do
@@ -84,16 +84,17 @@ if [ -d "$to/" ] && [ "$(cd "$to/" && pwd -P)" = "$here" ]; then
 fi
 cd "$here"
 
-# What is to be installed, a line for each file: how, the file here and its path below PREFIX.
+# The files to install, one a line: HOW as for `put`, the file here, and its path below PREFIX.
 plan=
 
-# Adds files of a folder to the plan: `put HOW FOLDER FILE..`. HOW is a mode, or what `place` knows.
+# Adds files to the plan: `put HOW FOLDER FILE..`. FOLDER is below PREFIX, and HOW is a mode or a word
+# that `place` knows.
 put() {
     how=$1
     folder=$2
     shift 2
     for file in "$@"; do
-        # The release for aarch64 has no programs, and nothing that is about them.
+        # The release for aarch64 has no programs and no pages about them.
         [ -f "$file" ] || continue
         plan="$plan$how $file $folder/${file##*/}
 "
@@ -113,7 +114,7 @@ put 755 share/doc/cesu8/examples examples/*.sh
 put pkgconfig "$libdir/pkgconfig" lib/pkgconfig/*
 put cmake "$libdir/cmake/cesu8" lib/cmake/cesu8/*
 
-# The file for pkg-config. The names in it are its own.
+# Prints the file for pkg-config, whose variables are relative to its own folder unless DESTDIR is set.
 pkgconfig() {
     # shellcheck disable=SC2016
     if [ -n "$root" ]; then
@@ -137,7 +138,7 @@ place() {
     esac
 }
 
-# The list comes first, so that uninstall.sh also takes away what a run leaves that does not end.
+# The list is written first, so that uninstall.sh also removes the files of a run that fails.
 installed=$(printf '%s' "$plan" | cut -d ' ' -f 3-)
 if [ -z "$root" ]; then
     list=share/doc/cesu8/INSTALLED
@@ -149,5 +150,5 @@ $list"
 fi
 printf '%s' "$plan" | while read -r how file path; do place "$how" "$file" "$to/$path"; done
 
-# Whoever reads only the first lines, as head does, ends nothing but this.
+# The names are printed last: if the reader ends early, as head does, the files are already installed.
 printf '%s\n' "$installed" | while IFS= read -r path; do printf '%s\n' "$to/$path"; done

@@ -1,12 +1,11 @@
 #!/bin/sh
-# Takes away what install.sh installed, and prints each file that was there:
+# Removes what install.sh installed, and prints each file that it removes:
 #   PREFIX/share/doc/cesu8/uninstall.sh
-# It removes the files that the list beside it, INSTALLED, names below PREFIX, which may have been moved,
-# and then the folders named cesu8, and those in them, if they are empty. Folders that others share, as
-# bin, stay.
+# It removes the files below PREFIX that the list INSTALLED beside it names; PREFIX may have been moved.
+# Then it removes the folders named cesu8 and their subfolders, if they are empty. Folders that may have
+# other users, such as bin, are not removed.
 #
-# The status is 2, and nothing is removed, where there is an argument or no list. --help prints how it is
-# called.
+# If there is an argument, or no list, the status is 2, and nothing is removed. --help prints the usage.
 set -eu
 unset CDPATH
 export LC_ALL=C
@@ -46,12 +45,12 @@ $folders"
 done <<LIST
 $list
 LIST
-# The list has capitals first, so here a folder comes before the one that it is in.
+# In this order a folder comes before the one that contains it.
 while IFS= read -r folder; do
     rmdir "$prefix/$folder" 2>/dev/null || :
 done <<FOLDERS
 $folders
 FOLDERS
 
-# Whoever reads only the first lines, as head does, ends nothing but this.
+# The names are printed last: if the reader ends early, as head does, the files are already removed.
 printf '%s' "$removed" | while IFS= read -r path; do printf '%s\n' "$path"; done

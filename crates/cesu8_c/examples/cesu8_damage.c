@@ -1,16 +1,15 @@
-// Tells which bytes of a file are in no encoded character, as `cesu8conv check` does:
+// Prints which bytes of a file are not part of an encoded character, as `cesu8conv check` does:
 //   cesu8_damage cesu8|mutf8 [FILE]
-// Without FILE it reads standard input. It prints a line for each stretch of such bytes, with four
-// columns and tabs between: the offset of the first, counted from 0; the number of its line, counted
-// from 1; how many there are; and these in hexadecimal, of more than 16 the first 16 and "..".
+// Without FILE it reads standard input. It prints a line for each run of such bytes, with four columns
+// separated by tabs: the offset of the first byte, from 0; the number of its line, from 1; the number
+// of bytes; and the bytes in hexadecimal, or the first 16 and ".." if there are more.
 //
-// The status is 0 where there are none, 1 where there are some, 2 where it was called otherwise, 3 where
-// memory ran out, and 4 where a read or a write failed. For the last three a line on standard error says
-// why.
+// The status is 0 if there are none, 1 if there are some, 2 if the arguments are wrong, 3 if memory ran
+// out, and 4 if a read or a write failed. For the last three a line on standard error says why.
 //
-// It reads a piece at a time, so a file may be larger than the memory. What is behind the whole characters
-// of a piece may begin a character that goes on in the next: at most five bytes. Of six or more, or at the
-// end of the file, the first is in no character.
+// It reads a piece at a time, so a file may be larger than the memory. The bytes after the whole
+// characters of a piece may begin a character that continues in the next piece, if there are at most
+// five. If there are six or more, or if the file ends, the first of them is not part of a character.
 
 #include "cesu8.h"
 
@@ -20,13 +19,13 @@
 
 enum { LONGEST = 6, SHOWN = 16 };
 
-// How many bytes at the front are whole characters, in either encoding.
+// Finds the valid prefix in one of the two encodings.
 typedef struct cesu8_answer finder(const uint8_t *bytes, size_t length);
 
 typedef unsigned long long number;
 
-// What was seen so far: the offset and the line of the next byte, and the stretch that ends before it,
-// whose length is 0 where there is none.
+// The state of the scan: the offset and the line of the next byte, and the run of damaged bytes that
+// ends before it, whose length is 0 if there is none.
 struct scan {
     finder *find;
     number offset, line;
@@ -44,7 +43,7 @@ static finder *finder_of(const char *encoding)
     return strcmp(encoding, "mutf8") == 0 ? cesu8_mutf8_valid_up_to : NULL;
 }
 
-// Prints the stretch that ends here. No line ends within it, since 0A is a character.
+// Prints the run of damaged bytes that ends here. It contains no line end, since 0A is a character.
 static void end_stretch(struct scan *scan)
 {
     if (scan->stretch.length == 0)
@@ -57,7 +56,7 @@ static void end_stretch(struct scan *scan)
     scan->is_damaged = true;
 }
 
-// Passes over whole characters.
+// Skips whole characters.
 static void pass(struct scan *scan, const uint8_t *bytes, size_t length)
 {
     if (length > 0)
@@ -67,7 +66,7 @@ static void pass(struct scan *scan, const uint8_t *bytes, size_t length)
     scan->offset += length;
 }
 
-// Adds a byte that is in no character.
+// Adds a byte that is not part of a character.
 static void add(struct scan *scan, uint8_t byte)
 {
     if (scan->stretch.length == 0)
@@ -78,7 +77,8 @@ static void add(struct scan *scan, uint8_t byte)
     scan->offset++;
 }
 
-// Looks at the bytes that come next, and returns how many at their end wait for those behind them.
+// Scans the next bytes, and returns how many at their end must be scanned again with the bytes that
+// follow them.
 static size_t look(struct scan *scan, const uint8_t *bytes, size_t length, bool is_end)
 {
     size_t at = 0;
@@ -92,7 +92,7 @@ static size_t look(struct scan *scan, const uint8_t *bytes, size_t length, bool 
     }
 }
 
-// Tells what failed, and returns the status for it.
+// Prints what failed, and returns the status for it.
 static int fail(const char *what)
 {
     int status = errno == ENOMEM ? 3 : 4;

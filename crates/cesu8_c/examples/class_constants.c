@@ -1,23 +1,23 @@
 // Prints the strings of a class file's constant pool, as the Java Virtual Machine Specification (4.4)
 // lays it out, each with its index:
 //   class_constants FILE.class
-// These are Modified UTF-8 with their length in front, after the byte 1. A string with an unpaired
-// surrogate, which Java allows, is no text: it is printed with U+FFFD, and its place in the file is
-// told. C.md shows how to put a NUL behind MUTF-8, as JNI wants it.
+// Each is the byte 1, then a length and as many bytes of Modified UTF-8. Java allows an unpaired
+// surrogate in a string, but then it is not a text: it is printed with U+FFFD, and its offset in the
+// file is printed to standard error. C.md shows how to append a NUL to MUTF-8, as JNI needs it.
 
 #include "cesu8.h"
 
 #include <stdio.h>
 #include <stdlib.h>
 
-// What is read, and how far.
+// A file, and the offset up to which it has been read.
 struct file {
     const char *name;
     const uint8_t *bytes;
     size_t length, at;
 };
 
-// How many bytes a constant of this tag has after it, or 0 for a tag that there is not.
+// How many bytes follow this tag of a constant, or 0 if there is no such tag.
 static size_t length_of(uint8_t tag)
 {
     switch (tag) {
@@ -46,7 +46,7 @@ static size_t length_of(uint8_t tag)
     }
 }
 
-// Prints the string that comes next, and returns how many bytes it takes, or 0.
+// Prints the next string, and returns how many bytes it takes, or 0 if the file ends within it.
 static size_t print_string(const struct file *file, unsigned index)
 {
     static uint8_t text[CESU8_MAX_JAVA_READ_LOSSY]; // Enough for both calls.
@@ -54,7 +54,7 @@ static size_t print_string(const struct file *file, unsigned index)
     size_t length = file->length - file->at;
     struct cesu8_reading read = cesu8_java_read(bytes, length, text, sizeof text);
     if (read.status == CESU8_INVALID) {
-        // The string is behind its count of two bytes, and its damage behind whole characters.
+        // The string follows its count of two bytes, and the damage follows its valid prefix.
         size_t whole = cesu8_mutf8_valid_up_to(bytes + 2, read.taken - 2).length;
         fprintf(stderr, "%s: constant %u, offset %zu: %s\n", file->name, index,
                 file->at + 2 + whole, cesu8_status_text(read.status));
@@ -68,12 +68,12 @@ static size_t print_string(const struct file *file, unsigned index)
     return read.taken;
 }
 
-// Prints the strings of a class file, and returns whether it has a whole pool of constants. If not,
-// `at` is where it can't be read.
+// Prints the strings of a class file, and returns whether its constant pool could be read to the end.
+// If not, `at` is the offset of the first byte that could not be read.
 static bool print_strings(struct file *file)
 {
-    // Before it are four bytes CA FE BA BE, two of the minor version and two of the major one. Its
-    // own first two are one more than the last index.
+    // The pool follows CA FE BA BE and two bytes each of the minor and the major version. Its first
+    // two bytes are one more than its last index.
     const uint8_t *bytes = file->bytes;
     if (file->length < 10 || bytes[0] != 0xCA || bytes[1] != 0xFE || bytes[2] != 0xBA
         || bytes[3] != 0xBE)
@@ -96,7 +96,7 @@ static bool print_strings(struct file *file)
     return true;
 }
 
-// The bytes of a file, to be freed, or NULL.
+// The bytes of a file, which the caller frees, or NULL.
 static uint8_t *read_file(const char *name, size_t *length)
 {
     FILE *file = fopen(name, "rb");

@@ -8,7 +8,7 @@
 #include <stdio.h>
 #include <string.h>
 
-// A text has no more bytes than its encoding, so the text of a piece always fits, and no call returns
+// A text is never longer than its encoding, so the text of a piece always fits, and no call returns
 // CESU8_FULL.
 static uint8_t piece[65536], text[sizeof piece];
 
@@ -17,7 +17,8 @@ int main(void)
     struct cesu8_progress progress = {CESU8_OK, 0, 0};
     unsigned long long offset = 0;
     size_t length = 0, count;
-    // What a call leaves, at most five bytes unless they are damaged, is read again with the next piece.
+    // The bytes that a call did not read, at most five unless they are damaged, are read again with the
+    // next piece.
     while ((count = fread(piece + length, 1, sizeof piece - length, stdin)) > 0) {
         length += count;
         progress = cesu8_mutf8_stream_decode_strict(piece, length, text, sizeof text);

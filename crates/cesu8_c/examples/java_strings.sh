@@ -1,10 +1,9 @@
 #!/bin/sh
-# Prints the strings of a file in which Java's DataOutput.writeUTF wrote one after another, and a line
-# end after each:
+# Prints the strings that Java's DataOutput.writeUTF wrote to a file, each on a line:
 #   java_strings.sh FILE
-# It reads the file once from its start to its end, by `od -N` and `head -c`, of which GNU's take no
-# byte too many. So twice as many strings take twice the time. A string that is cut off or is no
-# Modified UTF-8 ends it, with the line and the status of cesu8_cli. If a read or a write fails, the
+# It reads the file once, with `od -N` and `head -c`; GNU's never read beyond the bytes that they
+# print. So twice as many strings take twice the time. At a string that is truncated or not Modified
+# UTF-8 it stops, with the error line and the status of cesu8_cli. If a read or a write fails, the
 # status is not 0 either.
 #
 # CESU8_CLI names the program, if it is not on the PATH.
@@ -13,7 +12,7 @@ set -u
 program=${CESU8_CLI:-cesu8_cli}
 exec <"${1:?FILE is missing}" || exit
 while :; do
-    # The two bytes that count the string's, in octal with the high one first, or at the end none.
+    # The two bytes of the string's length, in octal, the high byte first; nothing at the end.
     count=$(od -An -to1 -N2) || exit
     # shellcheck disable=SC2086
     set -- $count

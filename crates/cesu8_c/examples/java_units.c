@@ -1,9 +1,9 @@
-// Prints the UTF-16 code units of the strings of a file in which Java's DataOutput.writeUTF wrote one
-// after another, each string in a line, and each code unit in four hexadecimal digits:
+// Prints the UTF-16 code units of the strings that Java's DataOutput.writeUTF wrote to a file, one
+// string a line, each code unit as four hexadecimal digits:
 //   java_units FILE
-// A surrogate without a partner is in no text, so cesu8_java_read refuses it, and cesu8_java_read_lossy
-// replaces it. But Java's strings may have one, and class files have some. This keeps it, as the code
-// unit that Java has.
+// No text has an unpaired surrogate, so cesu8_java_read rejects it and cesu8_java_read_lossy replaces
+// it. But a string in Java may have one, and class files contain some. This program prints it, as the
+// code unit that Java has.
 
 #include "cesu8.h"
 
@@ -13,15 +13,15 @@
 
 enum { LONGEST = 65535 };
 
-// Whether the bytes begin with a surrogate, as MUTF-8 has code units: ED, A0 to BF, 80 to BF.
+// Whether the bytes begin with a surrogate in MUTF-8: ED, A0 to BF, 80 to BF.
 static bool begins_with_surrogate(const uint8_t *bytes, size_t length)
 {
     return length >= 3 && bytes[0] == 0xED && bytes[1] >= 0xA0 && bytes[1] <= 0xBF
         && (bytes[2] & 0xC0) == 0x80;
 }
 
-// The next code unit of bytes that are known to be whole, which moves `at` behind it. Each has one to
-// three bytes, and the first tells how many.
+// Returns the code unit at offset `at` of bytes that are known to be whole characters or surrogates,
+// and moves `at` past it. Each has one to three bytes, and the first byte determines how many.
 static uint16_t next_unit(const uint8_t *bytes, size_t *at)
 {
     const uint8_t *unit = bytes + *at;
@@ -37,8 +37,8 @@ static uint16_t next_unit(const uint8_t *bytes, size_t *at)
     return (uint16_t)((unit[0] & 0x0F) << 12 | (unit[1] & 0x3F) << 6 | (unit[2] & 0x3F));
 }
 
-// Writes the code units of MUTF-8 in which surrogates may stand alone, of which there are at most as many
-// as bytes. It returns how many bytes were read: where that is less than `length`, there is damage.
+// Writes the code units of MUTF-8 that may contain unpaired surrogates. There are at most as many code
+// units as bytes. It returns how many bytes were read: if fewer than `length`, the next one is damage.
 static size_t read_units(const uint8_t *bytes, size_t length, uint16_t *units, size_t *count)
 {
     size_t at = 0;
@@ -56,8 +56,8 @@ static size_t read_units(const uint8_t *bytes, size_t length, uint16_t *units, s
     return at;
 }
 
-// Prints the next string of a file. It returns false at the end of the file, and if the string is cut
-// off or damaged or a read fails, which `problem` says then.
+// Prints the next string of a file. It returns false at the end of the file, and also if the string is
+// truncated or damaged or a read fails: then it sets `problem`.
 static bool print_string(FILE *file, const char **problem)
 {
     static uint8_t bytes[LONGEST];

@@ -1,5 +1,5 @@
-// Reads the strings of a file that Java's DataOutput.writeUTF wrote, and prints for each the key by
-// which a store has it that orders as Java does: its CESU-8.
+// Reads the strings that Java's DataOutput.writeUTF wrote to a file, and prints each with its key for
+// a store: its CESU-8. Keys that are compared byte by byte have the order of Java's strings.
 
 #include "cesu8.h"
 
@@ -17,12 +17,13 @@ static void print(const char *name, const uint8_t *bytes, size_t length)
     printf("\n");
 }
 
-// The key of a text, to be freed, or NULL where memory is refused.
+// The key of a text, which the caller frees, or NULL if memory runs out.
 static uint8_t *key_of(const uint8_t *text, size_t text_length, size_t *key_length)
 {
-    // The length is asked first. What was read is UTF-8, and there is room, so nothing is refused.
+    // The text was decoded, so it is UTF-8, and the buffer has the length of its encoding. So neither
+    // call fails.
     *key_length = cesu8_encoded_len(text, text_length).length;
-    uint8_t *key = malloc(*key_length + 1); // malloc may refuse a block of length 0.
+    uint8_t *key = malloc(*key_length + 1); // For 0 bytes malloc may return NULL.
     if (key != NULL && cesu8_encode(text, text_length, key, *key_length).status != CESU8_OK) {
         free(key);
         return NULL;
@@ -35,7 +36,7 @@ int main(void)
     const uint8_t *rest = file;
     size_t left = sizeof file - 1;
     while (left > 0) {
-        // No string is longer than this in UTF-8.
+        // The UTF-8 of no string is longer than this.
         static uint8_t text[CESU8_MAX_JAVA_READ];
         struct cesu8_reading read = cesu8_java_read(rest, left, text, sizeof text);
         if (read.status != CESU8_OK) {

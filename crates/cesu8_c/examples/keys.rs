@@ -1,5 +1,6 @@
-//! The same as `keys.c`, in Rust: reads the strings of a file that Java's `DataOutput.writeUTF`
-//! wrote, and prints for each the key by which a store has it that orders as Java does.
+//! `keys.c` in Rust: reads the strings that Java's `DataOutput.writeUTF` wrote to a file, and prints
+//! each with its key for a store: its CESU-8. Keys that are compared byte by byte have the order of
+//! Java's strings.
 
 const OK: u32 = 0;
 
@@ -38,9 +39,9 @@ fn key_of(text: &str) -> Result<Vec<u8>, u32> {
     }
 }
 
-/// The string that begins the bytes, and how many of them it takes.
+/// Decodes the string at the start of the bytes. Returns it and how many bytes it takes.
 fn read(bytes: &[u8]) -> Result<(String, usize), u32> {
-    // No string is longer in UTF-8 than it is there.
+    // The UTF-8 of a string is never longer than its MUTF-8.
     let mut text = vec![0; bytes.len()];
     let buffer = text.as_mut_ptr();
     let read = unsafe { cesu8_java_read(bytes.as_ptr(), bytes.len(), buffer, text.len()) };

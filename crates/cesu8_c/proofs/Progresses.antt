@@ -1,4 +1,5 @@
--- What C gets for how far a call came says what the call's own contract says.
+-- The contracts of the stream calls in Rattle imply those of the exports, which return a status for
+-- the state.
 use Rattle.std.proofs.Common.{◌≡◌, ◌↔◌, ℕ, ◌<◌, List, [], ◌∷◌, Bool, refl, inl, inr, arith}
 use Rattle.cesu8_stream.specs.Streams as stream
 use Rattle.cesu8_stream.specs.Lossy as stream_lossy
@@ -9,7 +10,8 @@ use Rattle.cesu8_c.specs.declared.answer.TheConstants.{OK, INCOMPLETE, FULL}
 use Rattle.cesu8_c.specs.Answers.{IsAmong}
 use Rattle.cesu8_c.specs.Pieces.{status_of, told_of_progress, ConvertsPiece, DecodesPiece}
 
--- Each state has a status of its own, if that for malformed bytes is none of the others.
+-- Each status is returned exactly for its state. `malformed` is one of the statuses 1 to 5, so it
+-- differs from OK, INCOMPLETE and FULL.
 told_ok : (malformed : ℕ) (state : State) → 0 < malformed → malformed < 6 →
     (status_of malformed state ≡ OK) ↔ (state ≡ InputEmpty)
 told_ok malformed InputEmpty some few = ((λ _. refl), (λ _. refl))
@@ -38,11 +40,11 @@ told_malformed malformed Incomplete some few = ((λ e. absurd (omega arith)), (�
 told_malformed malformed OutputFull some few = ((λ e. absurd (omega arith)), (λ s. absurd (let e = s in cc)))
 told_malformed malformed Malformed some few = ((λ _. refl), (λ _. refl))
 
--- What is so exactly in two cases that are the same.
+-- Equivalence is transitive.
 both : (A B C : Type 0) → A ↔ B → B ↔ C → A ↔ C
 both A B C first second = ((λ a. second.0 (first.0 a)), (λ c. first.1 (second.1 c)))
 
--- The contract of a call that converts what is well-formed.
+-- The contract of an export that converts well-formed input.
 pub converts_told : (from to : List ℕ → List ℕ) (widest malformed : ℕ) (bytes : List ℕ)
     (progress : stream_progress.Progress) (old new : List ℕ) → 0 < malformed → malformed < 6 →
     stream.ConvertsPiece from to widest bytes progress old new →
@@ -65,7 +67,7 @@ converts_told from to widest malformed bytes progress old new some few piece = r
     among OutputFull = inr (inr (inl refl))
     among Malformed = inr (inr (inr (inl refl)))
 
--- And of one that replaces what is ill-formed.
+-- The contract of an export that replaces ill-formed bytes.
 pub decodes_told : (from reading : List ℕ → List ℕ) (is_last : Bool) (malformed : ℕ) (bytes : List ℕ)
     (progress : stream_progress.Progress) (old new : List ℕ) → 0 < malformed → malformed < 6 →
     stream_lossy.DecodesPiece from reading is_last bytes progress old new →

@@ -1,4 +1,4 @@
--- What a call returns to C, and what it leaves in the caller's buffer.
+-- What a call returns to C, and what it writes to the caller's buffer.
 use Rattle.std.specs.Prelude.{◌≡◌, ◌≢◌, ◌↔◌, ◌⊎◌, ◌^◌, ℕ, ℤ, pos, negsuc, ◌+◌, ◌<◌, ◌≤◌, List, [], ◌∷◌, length, IsUtf8, IsTrue, Result, Ok, Err}
 use Rattle.std.specs.Cmp.Lexicographic.{slice_cmp}
 use Rattle.std.specs.Ordering.{nat_cmp}
@@ -22,22 +22,22 @@ use Rattle.cesu8_c.specs.declared.answer.Decision.{Decision}
 use Rattle.cesu8_c.specs.declared.answer.Reading.{Reading}
 use Rattle.cesu8_c.specs.declared.answer.TheConstants.{OK, NOT_UTF8, INVALID, TRUNCATED, TOO_LONG, TOO_SMALL}
 
--- The status and the length of a result, without what it takes of the input.
+-- The status and the length of a reading, without the number of bytes that it takes.
 abbrev pub answer_of : Reading → Answer
 answer_of read = record { status = read.status; length = read.length }
 
--- What C gets for the result of a call that writes bytes to a slice,
+-- What C gets for the result of a call that writes an encoding to a slice.
 abbrev pub told_of_bytes : Result ℕ TooShort → Answer
 told_of_bytes (Ok len) = record { status = OK; length = len }
 told_of_bytes (Err fault) = record { status = TOO_SMALL; length = fault.needed }
 
--- of one that writes a text,
+-- What C gets for the result of a call that writes a text.
 abbrev pub told_of_text : Result ℕ DecodeSliceFault → Answer
 told_of_text (Ok len) = record { status = OK; length = len }
 told_of_text (Err (strict.Invalid error)) = record { status = INVALID; length = 0 }
 told_of_text (Err (strict.TooShort fault)) = record { status = TOO_SMALL; length = fault.needed }
 
--- and of one that writes the text of damaged bytes.
+-- What C gets for the result of a call that writes the text of bytes that may be damaged.
 abbrev pub told_of_lossy_text : Result ℕ LossySliceFault → Answer
 told_of_lossy_text (Ok len) = record { status = OK; length = len }
 told_of_lossy_text (Err lossy.TooLong) = record { status = TOO_LONG; length = 0 }
@@ -83,7 +83,7 @@ pub record ComparesTexts (text other : List ℕ) (comparison : Comparison) : Typ
       → comparison.order ≡ number_of (slice_cmp nat_cmp (units (chars text)) (units (chars other)))
   pub none : ¬ (IsUtf8 text × IsUtf8 other) → comparison.order ≡ pos 0
 
--- The length of the strict reading. Input without one is `INVALID`.
+-- The length of the strict reading. For input without one the status is `INVALID`.
 pub record TellsDecodedLength (f : Flavor) (bytes : List ℕ) (answer : Answer) : Type 0 where
   pub read : answer.status ≡ OK
       → ReadsAtLength (IsStrictReading f bytes) (λ len. answer.length ≡ len)
@@ -98,30 +98,30 @@ pub record TellsLossyLength (f : Flavor) (bytes : List ℕ) (answer : Answer) : 
   pub statuses : IsAmong (OK ∷ TOO_LONG ∷ []) answer.status
   pub none : answer.status ≡ TOO_LONG → answer.length ≡ 0
 
--- How many bytes at the front are whole encoded characters, and no more. Each input has an answer.
+-- The length of the longest valid prefix. Each input has one.
 pub record TellsValidFront (f : Flavor) (bytes : List ℕ) (answer : Answer) : Type 0 where
   pub ok : answer.status ≡ OK
   pub valid : IsValidUpTo f bytes answer.length
 
--- These bytes are at the front of the buffer, or it is too small for them.
+-- These bytes are at the start of the buffer, or it is too small for them.
 pub record Places (bytes : List ℕ) (answer : Answer) (old new : List ℕ) : Type 0 where
   pub placed : answer.status ≡ OK → StandsAtFront bytes answer.length old new
   pub fits : answer.status ≡ OK ↔ length bytes ≤ length old
   -- Otherwise the call returns the needed length,
   pub too_small : answer.status ≡ TOO_SMALL ↔ length old < length bytes
   pub needed : answer.status ≡ TOO_SMALL → answer.length ≡ length bytes
-  -- and the whole buffer stays.
+  -- and the whole buffer is unchanged.
   pub unchanged : answer.status ≢ OK → new ≡ old
 
--- The encoding of UTF-8 is placed; other input is `NOT_UTF8`.
+-- The encoding of a text in UTF-8 is written. For other input the status is `NOT_UTF8`.
 pub record Encodes (f : Flavor) (text : List ℕ) (answer : Answer) (old new : List ℕ) : Type 0 where
   pub encoded : IsUtf8 text → Places (encoding f (chars text)) answer old new
   pub not_utf8 : answer.status ≡ NOT_UTF8 ↔ ¬ (IsUtf8 text)
   pub none : answer.status ≡ NOT_UTF8 → answer.length ≡ 0
   pub unchanged : answer.status ≢ OK → new ≡ old
 
--- The UTF-8 of a text that is a reading of the input is at the front of the buffer, or the buffer
--- is too small. Input without a reading is `INVALID`.
+-- The UTF-8 of a reading of the input is at the start of the buffer, or the buffer is too small.
+-- For input without a reading the status is `INVALID`.
 pub record Decodes (IsReading : List ℕ → Type 0) (answer : Answer) (old new : List ℕ) : Type 0 where
   pub placed : answer.status ≡ OK → ReadingAtFront IsReading answer.length old new
   pub fits : answer.status ≡ OK ↔ ReadsAtLength IsReading (λ len. len ≤ length old)
@@ -131,10 +131,10 @@ pub record Decodes (IsReading : List ℕ → Type 0) (answer : Answer) (old new 
       → ReadsAtLength IsReading (λ len. (length old < len) × (answer.length ≡ len))
   pub statuses : IsAmong (OK ∷ INVALID ∷ TOO_SMALL ∷ []) answer.status
   pub none : answer.status ≡ INVALID → answer.length ≡ 0
-  -- Without a result the whole buffer stays.
+  -- Without a result the whole buffer is unchanged.
   pub unchanged : answer.status ≢ OK → new ≡ old
 
--- The same for a lossy reading, which every input has, but whose length may not fit `size_t`.
+-- `Decodes` for lossy readings. Every input has one, but its length may not fit `size_t`.
 pub record DecodesLossily (IsReading : List ℕ → Type 0) (answer : Answer) (old new : List ℕ) : Type 0 where
   pub placed : answer.status ≡ OK → ReadingAtFront IsReading answer.length old new
   pub fits : answer.status ≡ OK ↔ ReadsAtLength IsReading (λ len. len ≤ length old)
@@ -144,10 +144,11 @@ pub record DecodesLossily (IsReading : List ℕ → Type 0) (answer : Answer) (o
       → ReadsAtLength IsReading (λ len. (length old < len) × (answer.length ≡ len))
   pub statuses : IsAmong (OK ∷ TOO_LONG ∷ TOO_SMALL ∷ []) answer.status
   pub none : answer.status ≡ TOO_LONG → answer.length ≡ 0
-  -- Without a result the whole buffer stays.
+  -- Without a result the whole buffer is unchanged.
   pub unchanged : answer.status ≢ OK → new ≡ old
 
--- The form of a text is placed; other input is `NOT_UTF8`, and a text that has none is `TOO_LONG`.
+-- The form of a text is written. The status is `NOT_UTF8` for input that is not UTF-8, and
+-- `TOO_LONG` for a text without a form.
 pub record WritesForm (text : List ℕ) (answer : Answer) (old new : List ℕ) : Type 0 where
   pub form : IsUtf8 text → HasForm (chars text) → Places (java_form (chars text)) answer old new
   pub not_utf8 : answer.status ≡ NOT_UTF8 ↔ ¬ (IsUtf8 text)
@@ -155,7 +156,7 @@ pub record WritesForm (text : List ℕ) (answer : Answer) (old new : List ℕ) :
   pub none : answer.status ≢ OK → answer.status ≢ TOO_SMALL → answer.length ≡ 0
   pub unchanged : answer.status ≢ OK → new ≡ old
 
--- How many bytes of the input a call takes that reads the form at its front.
+-- How many bytes of the input the form at its start takes.
 pub record TakesForm (bytes : List ℕ) (read : Reading) : Type 0 where
   pub truncated : read.status ≡ TRUNCATED ↔ IsTruncated bytes
   pub taken : ¬ (IsTruncated bytes) → read.taken ≡ 2 + count_in bytes
@@ -166,13 +167,13 @@ pub record TakesForm (bytes : List ℕ) (read : Reading) : Type 0 where
 abbrev pub IsFormText : List ℕ → List ℕ → Type 0
 IsFormText bytes text = BeginsWithForm bytes text (rest_in bytes)
 
--- The text of the form that begins the input is placed.
+-- The text of the form at the start of the input is written.
 pub record ReadsForm (bytes : List ℕ) (read : Reading) (old new : List ℕ) : Type 0 where
   pub form : TakesForm bytes read
   pub text : ¬ (IsTruncated bytes) → Decodes (IsFormText bytes) (answer_of read) old new
   pub unchanged : IsTruncated bytes → new ≡ old
 
--- The same if the counted bytes may be damaged.
+-- `ReadsForm` for counted bytes that may be damaged.
 pub record ReadsFormLossily (bytes : List ℕ) (read : Reading) (old new : List ℕ) : Type 0 where
   pub form : TakesForm bytes read
   pub text : ¬ (IsTruncated bytes)

@@ -1,4 +1,4 @@
-//! What an export returns.
+//! What the exports return: a status, and the length of the result, a decision or a reading.
 
 ghost use Rattle.std.specs.Prelude.{◌≡◌, false};
 ghost use Rattle.cesu8_c.specs.Answers.{answer_of, told_of_bytes, told_of_text, told_of_lossy_text};
@@ -9,9 +9,9 @@ use simd_cesu8::{DecodeSliceFault, LossySliceFault, TooShort};
 pub const OK: u32 = 0;
 /// The input must be UTF-8, and is not.
 pub const NOT_UTF8: u32 = 1;
-/// The input has no text.
+/// The input is not the encoding of any text.
 pub const INVALID: u32 = 2;
-/// The input ends before the bytes that its first two count.
+/// The input ends before the two bytes of the count, or before the bytes that they count.
 pub const TRUNCATED: u32 = 3;
 /// The length of the result does not fit its count.
 pub const TOO_LONG: u32 = 4;
@@ -19,22 +19,22 @@ pub const TOO_LONG: u32 = 4;
 pub const TOO_SMALL: u32 = 5;
 /// The piece ends within a character.
 pub const INCOMPLETE: u32 = 6;
-/// The next character does not fit in what is left of the buffer.
+/// The next character does not fit in the rest of the buffer.
 pub const FULL: u32 = 7;
 
-/// What a call returns.
+/// The result of a call that writes bytes, or returns a length.
 #[repr(C)]
 #[derive(Drop)]
 pub struct Answer {
-    /// One of the statuses above.
+    /// One of this module's statuses.
     pub status: u32,
-    /// With `OK` the result's length, with `TOO_SMALL` the needed length, otherwise 0. It is in
-    /// bytes, but from `cesu8_utf16_len` in UTF-16 code units.
+    /// With `OK` the result's length, with `TOO_SMALL` the needed length, otherwise 0. It counts
+    /// bytes; for `cesu8_utf16_len` it counts UTF-16 code units.
     pub length: usize,
 }
 
 impl Answer {
-    /// Reports a result of this length.
+    /// Returns `OK` and this length.
     pub(crate) fn of_length(length: usize) -> Answer
         ensures status { result.status ≡ OK }
         ensures length { result.length ≡ length }
@@ -42,7 +42,7 @@ impl Answer {
         Answer { status: OK, length }
     }
 
-    /// Reports that the buffer is too small for a result of this length.
+    /// Returns `TOO_SMALL`, for a result of this length.
     pub(crate) fn too_small(length: usize) -> Answer
         ensures status { result.status ≡ TOO_SMALL }
         ensures length { result.length ≡ length }
@@ -53,7 +53,7 @@ impl Answer {
         }
     }
 
-    /// Reports that there is no result, with this status.
+    /// Returns the status of a call without a result.
     pub(crate) fn without(status: u32) -> Answer
         ensures status { result.status ≡ status }
         ensures length { result.length ≡ 0 }
@@ -61,7 +61,7 @@ impl Answer {
         Answer { status, length: 0 }
     }
 
-    /// Reports the result of a call that encodes.
+    /// Converts the result of a call that encodes.
     pub(crate) fn of_bytes(outcome: Result<usize, TooShort>) -> Answer
         ensures { result ≡ told_of_bytes outcome }
     {
@@ -71,7 +71,7 @@ impl Answer {
         }
     }
 
-    /// Reports the result of a call that decodes.
+    /// Converts the result of a call that decodes.
     pub(crate) fn of_text(outcome: Result<usize, DecodeSliceFault>) -> Answer
         ensures { result ≡ told_of_text outcome }
     {
@@ -82,7 +82,7 @@ impl Answer {
         }
     }
 
-    /// Reports the result of a call that decodes damaged bytes.
+    /// Converts the result of a call that decodes bytes that may be damaged.
     pub(crate) fn of_lossy_text(outcome: Result<usize, LossySliceFault>) -> Answer
         ensures { result ≡ told_of_lossy_text outcome }
     {
@@ -94,18 +94,18 @@ impl Answer {
     }
 }
 
-/// What a call that decides returns.
+/// The result of `cesu8_needs_encoded`.
 #[repr(C)]
 #[derive(Drop)]
 pub struct Decision {
     /// `OK` or `NOT_UTF8`.
     pub status: u32,
-    /// What was decided; false with `NOT_UTF8`.
+    /// Whether the encoding differs from the UTF-8; false with `NOT_UTF8`.
     pub is_needed: bool,
 }
 
 impl Decision {
-    /// Reports what was decided of a text.
+    /// Returns `OK` and the decision.
     pub(crate) fn of(is_needed: bool) -> Decision
         ensures status { result.status ≡ OK }
         ensures decided { result.is_needed ≡ is_needed }
@@ -116,7 +116,7 @@ impl Decision {
         }
     }
 
-    /// Reports that the input is not UTF-8.
+    /// Returns `NOT_UTF8`, without a decision.
     pub(crate) fn without() -> Decision
         ensures status { result.status ≡ NOT_UTF8 }
         ensures undecided { result.is_needed ≡ false }
@@ -128,11 +128,11 @@ impl Decision {
     }
 }
 
-/// What a call that reads a string with its length in front returns.
+/// The result of a call that reads a length-prefixed string.
 #[repr(C)]
 #[derive(Drop)]
 pub struct Reading {
-    /// One of the statuses above.
+    /// One of this module's statuses.
     pub status: u32,
     /// With `OK` the result's length in bytes, with `TOO_SMALL` the needed length, otherwise 0.
     pub length: usize,
@@ -141,7 +141,7 @@ pub struct Reading {
 }
 
 impl Reading {
-    /// Adds to a result how many bytes of the input it takes.
+    /// Adds to a result how many bytes of the input the string takes.
     pub(crate) fn of(answer: Answer, taken: usize) -> Reading
         ensures answer { answer_of result ≡ answer }
         ensures taken { result.taken ≡ taken }

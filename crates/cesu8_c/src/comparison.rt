@@ -1,4 +1,4 @@
-//! What a call that compares returns.
+//! The result of a call that compares two texts.
 
 ghost use Rattle.std.specs.Prelude.{◌≡◌, pos};
 ghost use Rattle.cesu8_c.specs.Answers.{number_of};
@@ -18,7 +18,7 @@ pub struct Comparison {
 }
 
 impl Comparison {
-    /// Reports how two texts compare.
+    /// Returns `OK` and the order as a number.
     pub(crate) fn of(ordering: Ordering) -> Comparison
         ensures status { result.status ≡ OK }
         ensures order { result.order ≡ number_of ordering }
@@ -31,7 +31,7 @@ impl Comparison {
         Comparison { status: OK, order }
     }
 
-    /// Reports that an input is not UTF-8.
+    /// Returns `NOT_UTF8`, without an order.
     pub(crate) fn without() -> Comparison
         ensures status { result.status ≡ NOT_UTF8 }
         ensures order { result.order ≡ pos 0 }

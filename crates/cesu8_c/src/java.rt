@@ -1,4 +1,4 @@
-//! The calls for Java strings with their length in front.
+//! The calls for length-prefixed Java strings.
 
 ghost use Rattle.std.specs.Prelude.{◌≡◌, ◌≤◌, length, take, IfSome, IfNone};
 ghost use Rattle.java_text.specs.Form.{count_in, counted, IsTruncated};
@@ -10,8 +10,8 @@ use simd_cesu8::implementation::{decode_mutf8_front_to_slice, text_of};
 use simd_cesu8::mutf8;
 
 /// Writes UTF-8 as `java_text::write_utf_to_slice` does (Java's `DataOutput.writeUTF`): the length
-/// of its MUTF-8 in two bytes, the high byte first, and then the MUTF-8. `TOO_LONG` means that this
-/// has more than 65,535 bytes, and `NOT_UTF8` that the input is not UTF-8.
+/// of its MUTF-8 in two bytes, the high byte first, and then the MUTF-8. `TOO_LONG` means that the
+/// MUTF-8 has more than 65,535 bytes, and `NOT_UTF8` that the input is not UTF-8.
 #[unsafe(no_mangle)]
 pub extern "C" fn cesu8_java_write(text: &[u8], buf: &mut [u8]) -> Answer
     ensures { WritesForm text.now result buf.old buf.new }
@@ -36,7 +36,8 @@ pub extern "C" fn cesu8_java_read(bytes: &[u8], buf: &mut [u8]) -> Reading
     java_text::laws::parts();
     match counted_front(bytes) {
         Some((after, count)) => {
-            // Other strings mostly follow, so a short one is read with the bytes after it.
+            // Usually other strings follow, so a short one is decoded with a vector that includes
+            // bytes after it: then the time depends less on its length.
             let answer = Answer::of_text(decode_mutf8_front_to_slice(after, count, buf));
             Reading::of(answer, 2 + count)
         }
@@ -46,7 +47,8 @@ pub extern "C" fn cesu8_java_read(bytes: &[u8], buf: &mut [u8]) -> Reading
 
 /// Reads the string that begins the bytes, which may be damaged, as
 /// `java_text::read_utf_lossy_to_slice` does. It writes each encoded character of MUTF-8 in the
-/// counted bytes, and U+FFFD for each byte in none. `taken` is as in `cesu8_java_read`.
+/// counted bytes, and U+FFFD for each byte that is not part of one. `taken` is as in
+/// `cesu8_java_read`.
 #[unsafe(no_mangle)]
 pub extern "C" fn cesu8_java_read_lossy(bytes: &[u8], buf: &mut [u8]) -> Reading
     ensures { ReadsFormLossily bytes.now result buf.old buf.new }
@@ -60,7 +62,8 @@ pub extern "C" fn cesu8_java_read_lossy(bytes: &[u8], buf: &mut [u8]) -> Reading
     }
 }
 
-/// Returns the bytes after the first two, and how many of them these count, if there are so many.
+/// Splits the input after the count: returns the bytes after the first two, and the count of the
+/// string's bytes. Returns `None` if there are fewer bytes than they count.
 fn counted_front(bytes: &[u8]) -> Option<(&[u8], usize)>
     ensures counted { IfSome result (λ front. take front.1 front.0.now ≡ counted bytes.now) }
     ensures count { IfSome result (λ front. front.1 ≡ count_in bytes.now) }

@@ -1,12 +1,11 @@
 //! The library for C: the calls of `simd_cesu8`, `java_text` and `cesu8_stream` over byte slices.
 //!
 //! C passes each slice as a pointer and a length, as `include/cesu8.h` declares it. A call returns
-//! a status and the length of its result, and writes the result at the front of the caller's
+//! a status and the length of its result, and writes the result to the start of the caller's
 //! buffer. If the buffer is too short, it returns `TOO_SMALL` and the needed length. The `stream`
 //! calls, for input that comes in pieces, write as much as fits, and return a status, how many
-//! bytes they read and how many they wrote. No call takes memory. The calls here are for CESU-8,
-//! those of [`mutf8`] for MUTF-8, and those of [`java`] for Java strings with their length in
-//! front.
+//! bytes they read and how many they wrote. No call allocates memory. The calls here are for
+//! CESU-8, those of [`mutf8`] for MUTF-8, and those of [`java`] for length-prefixed Java strings.
 #![tactic(auto)]
 
 ghost use Rattle.std.specs.Prelude.{◌≡◌};
@@ -92,7 +91,7 @@ pub extern "C" fn cesu8_encode(text: &[u8], buf: &mut [u8]) -> Answer
 }
 
 /// Decodes CESU-8 to UTF-8, as `simd_cesu8::decode_strict_to_slice` does. `INVALID` means that the
-/// input is the encoding of no text.
+/// input is not the encoding of any text.
 #[unsafe(no_mangle)]
 pub extern "C" fn cesu8_decode_strict(bytes: &[u8], buf: &mut [u8]) -> Answer
     ensures { Decodes (IsStrictReading Cesu8 bytes.now) result buf.old buf.new }
@@ -110,8 +109,8 @@ pub extern "C" fn cesu8_decode(bytes: &[u8], buf: &mut [u8]) -> Answer
 }
 
 /// Decodes CESU-8 that may be damaged to UTF-8, as `simd_cesu8::decode_lossy_strict_to_slice` does:
-/// each encoded character in the bytes, and U+FFFD for each byte in none. `TOO_LONG` means that the
-/// length of the text does not fit `size_t`.
+/// each encoded character in the bytes, and U+FFFD for each byte that is not part of one.
+/// `TOO_LONG` means that the length of the text does not fit `size_t`.
 #[unsafe(no_mangle)]
 pub extern "C" fn cesu8_decode_lossy_strict(bytes: &[u8], buf: &mut [u8]) -> Answer
     ensures { DecodesLossily (λ text. text ≡ reading Cesu8 bytes.now) result buf.old buf.new }
@@ -120,8 +119,8 @@ pub extern "C" fn cesu8_decode_lossy_strict(bytes: &[u8], buf: &mut [u8]) -> Ans
 }
 
 /// Decodes bytes that are UTF-8 as a whole, or else CESU-8 that may be damaged, to UTF-8, as
-/// `simd_cesu8::decode_lossy_to_slice` does. `TOO_LONG` means the same as from
-/// `cesu8_decode_lossy_strict`.
+/// `simd_cesu8::decode_lossy_to_slice` does. `TOO_LONG` means that the length of the text does not
+/// fit `size_t`.
 #[unsafe(no_mangle)]
 pub extern "C" fn cesu8_decode_lossy(bytes: &[u8], buf: &mut [u8]) -> Answer
     ensures { DecodesLossily (IsLenientLossyReading Cesu8 bytes.now) result buf.old buf.new }
@@ -130,7 +129,7 @@ pub extern "C" fn cesu8_decode_lossy(bytes: &[u8], buf: &mut [u8]) -> Answer
 }
 
 /// Returns the length in bytes of the text that `cesu8_decode_strict` writes, as
-/// `simd_cesu8::decoded_len` does. `INVALID` means that the input is the encoding of no text.
+/// `simd_cesu8::decoded_len` does. `INVALID` means that the input is not the encoding of any text.
 #[unsafe(no_mangle)]
 pub extern "C" fn cesu8_decoded_len(bytes: &[u8]) -> Answer
     ensures { TellsDecodedLength Cesu8 bytes.now result }
@@ -141,8 +140,8 @@ pub extern "C" fn cesu8_decoded_len(bytes: &[u8]) -> Answer
     }
 }
 
-/// Returns how many bytes at the front are whole encoded characters, as `simd_cesu8::valid_up_to`
-/// does. The status is `OK` for all input.
+/// Returns the length of the longest valid prefix, as `simd_cesu8::valid_up_to` does: how many
+/// bytes at the start are whole encoded characters. The status is always `OK`.
 #[unsafe(no_mangle)]
 pub extern "C" fn cesu8_valid_up_to(bytes: &[u8]) -> Answer
     ensures { TellsValidFront Cesu8 bytes.now result }
@@ -163,8 +162,8 @@ pub extern "C" fn cesu8_lossy_len(bytes: &[u8]) -> Answer
 }
 
 /// Decodes a piece of CESU-8 to UTF-8, as much as fits in the buffer, as
-/// `cesu8_stream::decode_strict` does. `INVALID` means that the bytes from `read` on begin with no
-/// encoded character, whatever follows them.
+/// `cesu8_stream::decode_strict` does. `INVALID` means that no encoded character begins at offset
+/// `read`, whatever bytes follow the piece.
 #[unsafe(no_mangle)]
 pub extern "C" fn cesu8_stream_decode_strict(bytes: &[u8], buf: &mut [u8]) -> Progress
     ensures { ConvertsPiece (encoding Cesu8) utf8 4 INVALID bytes.now result buf.old buf.new }
@@ -173,8 +172,8 @@ pub extern "C" fn cesu8_stream_decode_strict(bytes: &[u8], buf: &mut [u8]) -> Pr
 }
 
 /// Decodes a piece of CESU-8 that may be damaged to UTF-8, as much as fits in the buffer, as
-/// `cesu8_stream::decode_lossy_strict` does. `is_last` says that no more bytes follow; otherwise a
-/// part of a character at the end is left for the next piece.
+/// `cesu8_stream::decode_lossy_strict` does. `is_last` says that no more bytes follow; otherwise an
+/// incomplete character at the end is left for the next piece.
 #[unsafe(no_mangle)]
 pub extern "C" fn cesu8_stream_decode_lossy_strict(
     bytes: &[u8],
@@ -191,8 +190,8 @@ pub extern "C" fn cesu8_stream_decode_lossy_strict(
 }
 
 /// Encodes a piece of UTF-8 to CESU-8, as much as fits in the buffer, as `cesu8_stream::encode`
-/// does. `NOT_UTF8` means that the bytes from `read` on begin with no character of UTF-8, whatever
-/// follows them.
+/// does. `NOT_UTF8` means that no character of UTF-8 begins at offset `read`, whatever bytes follow
+/// the piece.
 #[unsafe(no_mangle)]
 pub extern "C" fn cesu8_stream_encode(text: &[u8], buf: &mut [u8]) -> Progress
     ensures { ConvertsPiece utf8 (encoding Cesu8) 6 NOT_UTF8 text.now result buf.old buf.new }

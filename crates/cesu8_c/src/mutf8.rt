@@ -37,7 +37,7 @@ pub extern "C" fn cesu8_mutf8_encoded_len(text: &[u8]) -> Answer
     }
 }
 
-/// Encodes UTF-8 to MUTF-8 (Java's `DataOutput`, without a length in front), as
+/// Encodes UTF-8 to MUTF-8 (Java's `DataOutput`, without the length prefix), as
 /// `mutf8::encode_to_slice` does. `NOT_UTF8` means that the input is not UTF-8.
 #[unsafe(no_mangle)]
 pub extern "C" fn cesu8_mutf8_encode(text: &[u8], buf: &mut [u8]) -> Answer
@@ -50,7 +50,7 @@ pub extern "C" fn cesu8_mutf8_encode(text: &[u8], buf: &mut [u8]) -> Answer
 }
 
 /// Decodes MUTF-8 to UTF-8, as `mutf8::decode_strict_to_slice` does. `INVALID` means that the input
-/// is the encoding of no text.
+/// is not the encoding of any text.
 #[unsafe(no_mangle)]
 pub extern "C" fn cesu8_mutf8_decode_strict(bytes: &[u8], buf: &mut [u8]) -> Answer
     ensures { Decodes (IsStrictReading Mutf8 bytes.now) result buf.old buf.new }
@@ -68,8 +68,8 @@ pub extern "C" fn cesu8_mutf8_decode(bytes: &[u8], buf: &mut [u8]) -> Answer
 }
 
 /// Decodes MUTF-8 that may be damaged to UTF-8, as `mutf8::decode_lossy_strict_to_slice` does: each
-/// encoded character in the bytes, and U+FFFD for each byte in none. `TOO_LONG` means that the
-/// length of the text does not fit `size_t`.
+/// encoded character in the bytes, and U+FFFD for each byte that is not part of one. `TOO_LONG`
+/// means that the length of the text does not fit `size_t`.
 #[unsafe(no_mangle)]
 pub extern "C" fn cesu8_mutf8_decode_lossy_strict(bytes: &[u8], buf: &mut [u8]) -> Answer
     ensures { DecodesLossily (λ text. text ≡ reading Mutf8 bytes.now) result buf.old buf.new }
@@ -78,8 +78,8 @@ pub extern "C" fn cesu8_mutf8_decode_lossy_strict(bytes: &[u8], buf: &mut [u8]) 
 }
 
 /// Decodes bytes that are UTF-8 as a whole, or else MUTF-8 that may be damaged, to UTF-8, as
-/// `mutf8::decode_lossy_to_slice` does. `TOO_LONG` means the same as from
-/// `cesu8_mutf8_decode_lossy_strict`.
+/// `mutf8::decode_lossy_to_slice` does. `TOO_LONG` means that the length of the text does not fit
+/// `size_t`.
 #[unsafe(no_mangle)]
 pub extern "C" fn cesu8_mutf8_decode_lossy(bytes: &[u8], buf: &mut [u8]) -> Answer
     ensures { DecodesLossily (IsLenientLossyReading Mutf8 bytes.now) result buf.old buf.new }
@@ -88,7 +88,7 @@ pub extern "C" fn cesu8_mutf8_decode_lossy(bytes: &[u8], buf: &mut [u8]) -> Answ
 }
 
 /// Returns the length in bytes of the text that `cesu8_mutf8_decode_strict` writes, as
-/// `mutf8::decoded_len` does. `INVALID` means that the input is the encoding of no text.
+/// `mutf8::decoded_len` does. `INVALID` means that the input is not the encoding of any text.
 #[unsafe(no_mangle)]
 pub extern "C" fn cesu8_mutf8_decoded_len(bytes: &[u8]) -> Answer
     ensures { TellsDecodedLength Mutf8 bytes.now result }
@@ -99,8 +99,8 @@ pub extern "C" fn cesu8_mutf8_decoded_len(bytes: &[u8]) -> Answer
     }
 }
 
-/// Returns how many bytes at the front are whole encoded characters, as `mutf8::valid_up_to` does.
-/// The status is `OK` for all input.
+/// Returns the length of the longest valid prefix, as `mutf8::valid_up_to` does: how many bytes at
+/// the start are whole encoded characters. The status is always `OK`.
 #[unsafe(no_mangle)]
 pub extern "C" fn cesu8_mutf8_valid_up_to(bytes: &[u8]) -> Answer
     ensures { TellsValidFront Mutf8 bytes.now result }
@@ -121,8 +121,8 @@ pub extern "C" fn cesu8_mutf8_lossy_len(bytes: &[u8]) -> Answer
 }
 
 /// Decodes a piece of MUTF-8 to UTF-8, as much as fits in the buffer, as
-/// `cesu8_stream::mutf8::decode_strict` does. `INVALID` means that the bytes from `read` on begin
-/// with no encoded character, whatever follows them.
+/// `cesu8_stream::mutf8::decode_strict` does. `INVALID` means that no encoded character begins at
+/// offset `read`, whatever bytes follow the piece.
 #[unsafe(no_mangle)]
 pub extern "C" fn cesu8_mutf8_stream_decode_strict(bytes: &[u8], buf: &mut [u8]) -> Progress
     ensures { ConvertsPiece (encoding Mutf8) utf8 4 INVALID bytes.now result buf.old buf.new }
@@ -132,7 +132,7 @@ pub extern "C" fn cesu8_mutf8_stream_decode_strict(bytes: &[u8], buf: &mut [u8])
 
 /// Decodes a piece of MUTF-8 that may be damaged to UTF-8, as much as fits in the buffer, as
 /// `cesu8_stream::mutf8::decode_lossy_strict` does. `is_last` says that no more bytes follow;
-/// otherwise a part of a character at the end is left for the next piece.
+/// otherwise an incomplete character at the end is left for the next piece.
 #[unsafe(no_mangle)]
 pub extern "C" fn cesu8_mutf8_stream_decode_lossy_strict(
     bytes: &[u8],
@@ -146,8 +146,8 @@ pub extern "C" fn cesu8_mutf8_stream_decode_lossy_strict(
 }
 
 /// Encodes a piece of UTF-8 to MUTF-8, as much as fits in the buffer, as
-/// `cesu8_stream::mutf8::encode` does. `NOT_UTF8` means that the bytes from `read` on begin with no
-/// character of UTF-8, whatever follows them.
+/// `cesu8_stream::mutf8::encode` does. `NOT_UTF8` means that no character of UTF-8 begins at offset
+/// `read`, whatever bytes follow the piece.
 #[unsafe(no_mangle)]
 pub extern "C" fn cesu8_mutf8_stream_encode(text: &[u8], buf: &mut [u8]) -> Progress
     ensures { ConvertsPiece utf8 (encoding Mutf8) 6 NOT_UTF8 text.now result buf.old buf.new }

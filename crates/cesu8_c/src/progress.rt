@@ -1,4 +1,4 @@
-//! What a call that converts a piece returns.
+//! The result of a call that converts a piece.
 
 ghost use Rattle.std.specs.Prelude.{◌≡◌};
 ghost use Rattle.cesu8_c.specs.Pieces.{told_of_progress};
@@ -6,11 +6,12 @@ ghost use Rattle.cesu8_c.specs.Pieces.{told_of_progress};
 use crate::answer::{FULL, INCOMPLETE, OK};
 use cesu8_stream::State;
 
-/// How far a call came that converts a piece, and why it stopped.
+/// How far a call that converts a piece came, and why it stopped.
 #[repr(C)]
 #[derive(Drop)]
 pub struct Progress {
-    /// `OK` if all bytes were read, `INCOMPLETE`, `FULL`, or `INVALID` or `NOT_UTF8`.
+    /// `OK` if all bytes were read, otherwise why not: `INCOMPLETE`, `FULL`, `INVALID` from a call
+    /// that decodes, or `NOT_UTF8` from a call that encodes.
     pub status: u32,
     /// How many bytes at the start of the input were read.
     pub read: usize,
@@ -19,7 +20,8 @@ pub struct Progress {
 }
 
 impl Progress {
-    /// Reports how far a call came, with this status if the bytes that are left are malformed.
+    /// Converts the result of a stream's call. `malformed` is the status if no character begins at
+    /// the remaining bytes.
     pub(crate) fn of(progress: cesu8_stream::Progress, malformed: u32) -> Progress
         ensures { result ≡ told_of_progress malformed progress }
     {

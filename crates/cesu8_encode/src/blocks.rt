@@ -15,7 +15,7 @@ ghost use Rattle.cesu8_bytes.specs.Kernels.{AnyIn};
 ghost use Rattle.cesu8_bytes.specs.Puts.{WritesAt};
 ghost use Rattle.cesu8_encode.specs.EncodedOffsets.{packed, packed_len, encoded_bytes, AreLanes, WritesLanes};
 
-use super::rows::rows;
+use super::rows::doubling_rows;
 use cesu8_bytes::BLOCK;
 use cesu8_bytes::flavor::{Flavor, nulls};
 use cesu8_bytes::lanes::class::{AtLeastF0, Either, bits, mask};
@@ -71,7 +71,7 @@ pub fn is_unchanged<F: Flavor>(window: &[u8], at: usize) -> bool
 /// Encodes a block of a window without a byte of F0 or more (hexadecimal), and returns the end of
 /// what it wrote. Null characters become C0 80.
 #[inline(always)]
-pub fn write_nulls<F: Flavor>(window: &[u8], at: usize, out: &mut [u8], end: usize) -> usize
+pub fn encode_nulls<F: Flavor>(window: &[u8], at: usize, out: &mut [u8], end: usize) -> usize
     requires window { at + BLOCK_READ ≤ length window.now }
     requires low { ¬ (AnyIn is_at_least_f0 window.now) }
     requires room { end + length (encoded_bytes F.flavor window.now at BLOCK) ≤ length out.old }
@@ -139,7 +139,7 @@ fn store_row(lanes: u8x16, doubled: usize, out: &mut [u8], at: usize) -> usize
     ensures end { (at ≤ result) × (result ≤ at + 2 * ROW) }
     ensures len { length out.new ≡ length out.old }
 {
-    let packed = lanes.swizzle_dyn(u8x16::from_array(rows()[doubled]));
+    let packed = lanes.swizzle_dyn(u8x16::from_array(doubling_rows()[doubled]));
     packed.copy_to_slice(&mut out[at..]);
     at + ROW + doubled.count_ones() as usize
 }

@@ -45,14 +45,14 @@ fn write_blocks<F: Flavor>(text: &str, more: usize, out: &mut [u8]) -> usize
 {
     let bytes = text.as_bytes();
     let blocks = (bytes.len() - 1) / BLOCK;
-    let end = write_first::<F>(bytes, out);
+    let end = write_first_block::<F>(bytes, out);
     let end = write_middle::<F>(bytes, more, blocks, out, end);
-    write_last::<F>(bytes, BLOCK * blocks, out, end)
+    write_last_block::<F>(bytes, BLOCK * blocks, out, end)
 }
 
 /// Encodes the first block, and returns the end of what it wrote.
 #[inline(always)]
-fn write_first<F: Flavor>(text: &[u8], out: &mut [u8]) -> usize
+fn write_first_block<F: Flavor>(text: &[u8], out: &mut [u8]) -> usize
     requires long { BLOCK < length text.now }
     requires room { length (recoded F.flavor text.now) ≤ length out.old }
     ensures { Writes F.flavor text.now BLOCK out.old out.new result }
@@ -114,7 +114,7 @@ fn write_middle_by<F: Flavor, W: BlockWriter>(
 
 /// Encodes the last block, and returns the end of what it wrote.
 #[inline(always)]
-fn write_last<F: Flavor>(text: &[u8], at: usize, out: &mut [u8], end: usize) -> usize
+fn write_last_block<F: Flavor>(text: &[u8], at: usize, out: &mut [u8], end: usize) -> usize
     requires offset { (BLOCK ≤ at) × (at < length text.now) × (length text.now ≤ at + BLOCK) }
     requires room { length (recoded F.flavor text.now) ≤ length out.old }
     requires before { IsWritten F.flavor text.now at out.old end }

@@ -7,7 +7,7 @@ ghost use Rattle.cesu8_bytes.specs.Kernels.{AnyIn};
 ghost use Rattle.cesu8_bytes.specs.Puts.{WritesAt};
 ghost use Rattle.cesu8_encode.specs.EncodedOffsets.{encoded_bytes};
 
-use super::blocks::{BLOCK_READ, READ_BEFORE, is_unchanged, write_block, write_nulls};
+use super::blocks::{BLOCK_READ, READ_BEFORE, encode_nulls, is_unchanged, write_block};
 use cesu8_bytes::BLOCK;
 use cesu8_bytes::flavor::Flavor;
 use cesu8_bytes::writing::offsets::put_lanes;
@@ -51,7 +51,7 @@ impl BlockWriter for NullChange {
 
     #[inline(always)]
     fn write<F: Flavor>(text: &[u8], at: usize, out: &mut [u8], end: usize) -> usize {
-        write_nulls::<F>(text, at, out, end)
+        encode_nulls::<F>(text, at, out, end)
     }
 }
 

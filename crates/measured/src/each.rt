@@ -1,12 +1,13 @@
-//! A call on each of many texts. C can pass no text, so bytes are tested for UTF-8 first; here one
-//! test serves many calls.
+//! A call on each of many texts. C passes bytes, which must be tested for UTF-8 before they are a
+//! text. Here all texts are tested at once, so the time of the test is small beside that of the
+//! calls.
 
 ghost use Rattle.std.specs.Prelude.{◌<◌};
 
-use crate::outcome::{Outcome, tell_length, without_answer};
+use crate::outcome::{Outcome, outcome_of_length, without_result};
 use simd_cesu8::implementation::text_of;
 
-/// Texts of one length, in bytes, one after another.
+/// Texts of `length` bytes each, one after another.
 #[derive(Clone, Copy)]
 struct Texts<'a> {
     all: &'a str,
@@ -15,9 +16,9 @@ struct Texts<'a> {
 
 /// Adds up the results of a call for each text of `length` bytes, `times` times.
 ///
-/// It returns no sum if a call returns none, if the last text is shorter, if a text ends within a
+/// It returns `None` if a call does, if the last text is shorter, if a text ends within a
 /// character, or if the sum does not fit `usize`.
-pub fn tell_sum<F: Fn(&str) -> Option<usize>>(
+pub fn outcome_of_sum<F: Fn(&str) -> Option<usize>>(
     texts: &[u8],
     length: usize,
     times: usize,
@@ -26,11 +27,11 @@ pub fn tell_sum<F: Fn(&str) -> Option<usize>>(
     requires { F.IsAlwaysCallable call }
 {
     let Some(all) = text_of(texts) else {
-        return without_answer(true);
+        return without_result(true);
     };
     match repeated_sum(Texts { all, length }, times, call) {
-        Some(sum) => tell_length(sum),
-        None => without_answer(false),
+        Some(sum) => outcome_of_length(sum),
+        None => without_result(false),
     }
 }
 

@@ -1,23 +1,25 @@
-//! The calls of `simd_cesu8` as bench measures them, over byte slices.
+//! The calls of `simd_cesu8` as `bench` measures them, over byte slices.
 //!
-//! C passes each slice as a pointer and a length, as `bench/measured.h` declares it. The result is
-//! made as the library makes it, and then copied to the front of `buf` if it fits. So a call with
-//! an empty `buf` costs as much as the library's call, and returns the length of its result. A call
-//! on a slice writes to `buf` itself. Calls that take a text first test the input for UTF-8.
+//! C passes each slice as a pointer and a length, as `bench/measured.h` declares it. An export
+//! calls the library, and copies the result to the start of `buf` if it fits. So with an empty
+//! `buf` it costs as much as the library's call, and returns the length of the result. The calls
+//! whose names end in `to_slice` write to `buf` directly. Calls that take a text first test the
+//! input for UTF-8.
 //!
-//! The exports have no contracts: they are proved to be safe and to return. What they return bench's
-//! driver compares before it measures.
+//! The exports have no contracts: they are only proved to be safe and to return. The driver of
+//! `bench` compares their results with a plain codec before it measures.
 #![tactic(auto)]
 
 mod each;
 pub mod mutf8;
 mod outcome;
 
-use crate::each::tell_sum;
+use crate::each::outcome_of_sum;
 pub use crate::outcome::Outcome;
 use crate::outcome::{
-    tell_bytes, tell_bytes_written, tell_length, tell_lossy_text, tell_lossy_written, tell_text,
-    tell_written, without_answer,
+    outcome_of_bytes, outcome_of_length, outcome_of_lossy_text, outcome_of_text,
+    outcome_of_written_bytes, outcome_of_written_lossy_text, outcome_of_written_text,
+    without_result,
 };
 use simd_cesu8::implementation::{active, text_of};
 use std::alloc::Global;
@@ -26,21 +28,21 @@ use std::alloc::Global;
 #[unsafe(no_mangle)]
 pub extern "C" fn measured_encode(alloc: Global, text: &[u8], buf: &mut [u8]) -> Outcome {
     match text_of(text) {
-        Some(text) => tell_bytes(simd_cesu8::encode(alloc, text), buf),
-        None => without_answer(true),
+        Some(text) => outcome_of_bytes(simd_cesu8::encode(alloc, text), buf),
+        None => without_result(true),
     }
 }
 
 /// Calls `simd_cesu8::decode`.
 #[unsafe(no_mangle)]
 pub extern "C" fn measured_decode(alloc: Global, bytes: &[u8], buf: &mut [u8]) -> Outcome {
-    tell_text(simd_cesu8::decode(alloc, bytes), buf)
+    outcome_of_text(simd_cesu8::decode(alloc, bytes), buf)
 }
 
 /// Calls `simd_cesu8::decode_strict`.
 #[unsafe(no_mangle)]
 pub extern "C" fn measured_decode_strict(alloc: Global, bytes: &[u8], buf: &mut [u8]) -> Outcome {
-    tell_text(simd_cesu8::decode_strict(alloc, bytes), buf)
+    outcome_of_text(simd_cesu8::decode_strict(alloc, bytes), buf)
 }
 
 /// Calls `simd_cesu8::encoded_len`. It writes nothing.
@@ -48,8 +50,8 @@ pub extern "C" fn measured_decode_strict(alloc: Global, bytes: &[u8], buf: &mut 
 pub extern "C" fn measured_encoded_len(text: &[u8], buf: &mut [u8]) -> Outcome {
     let _ = buf;
     match text_of(text) {
-        Some(text) => tell_length(simd_cesu8::encoded_len(text)),
-        None => without_answer(true),
+        Some(text) => outcome_of_length(simd_cesu8::encoded_len(text)),
+        None => without_result(true),
     }
 }
 
@@ -58,8 +60,8 @@ pub extern "C" fn measured_encoded_len(text: &[u8], buf: &mut [u8]) -> Outcome {
 pub extern "C" fn measured_lossy_len(bytes: &[u8], buf: &mut [u8]) -> Outcome {
     let _ = buf;
     match simd_cesu8::lossy_len(bytes) {
-        Some(length) => tell_length(length),
-        None => without_answer(false),
+        Some(length) => outcome_of_length(length),
+        None => without_result(false),
     }
 }
 
@@ -67,7 +69,7 @@ pub extern "C" fn measured_lossy_len(bytes: &[u8], buf: &mut [u8]) -> Outcome {
 #[unsafe(no_mangle)]
 pub extern "C" fn measured_valid_up_to(bytes: &[u8], buf: &mut [u8]) -> Outcome {
     let _ = buf;
-    tell_length(simd_cesu8::valid_up_to(bytes))
+    outcome_of_length(simd_cesu8::valid_up_to(bytes))
 }
 
 /// Calls `simd_cesu8::decode_lossy_strict`.
@@ -77,13 +79,13 @@ pub extern "C" fn measured_decode_lossy_strict(
     bytes: &[u8],
     buf: &mut [u8],
 ) -> Outcome {
-    tell_lossy_text(simd_cesu8::decode_lossy_strict(alloc, bytes), buf)
+    outcome_of_lossy_text(simd_cesu8::decode_lossy_strict(alloc, bytes), buf)
 }
 
 /// Calls `simd_cesu8::decode_lossy`.
 #[unsafe(no_mangle)]
 pub extern "C" fn measured_decode_lossy(alloc: Global, bytes: &[u8], buf: &mut [u8]) -> Outcome {
-    tell_lossy_text(simd_cesu8::decode_lossy(alloc, bytes), buf)
+    outcome_of_lossy_text(simd_cesu8::decode_lossy(alloc, bytes), buf)
 }
 
 /// Calls `simd_cesu8::encode` on each text.
@@ -94,7 +96,7 @@ pub extern "C" fn measured_encode_each(
     length: usize,
     times: usize,
 ) -> Outcome {
-    tell_sum(texts, length, times, |text| {
+    outcome_of_sum(texts, length, times, |text| {
         Some(simd_cesu8::encode(alloc, text).ok()?.as_bytes().len())
     })
 }
@@ -102,7 +104,7 @@ pub extern "C" fn measured_encode_each(
 /// Calls `simd_cesu8::encoded_len` on each text.
 #[unsafe(no_mangle)]
 pub extern "C" fn measured_encoded_len_each(texts: &[u8], length: usize, times: usize) -> Outcome {
-    tell_sum(
+    outcome_of_sum(
         texts,
         length,
         times,
@@ -117,7 +119,7 @@ pub extern "C" fn measured_contains_utf8_4_byte_char_header(
     buf: &mut [u8],
 ) -> Outcome {
     let _ = buf;
-    tell_length(usize::from(active::contains_utf8_4_byte_char_header(bytes)))
+    outcome_of_length(usize::from(active::contains_utf8_4_byte_char_header(bytes)))
 }
 
 /// Calls this test of the kernel in use. The outcome's length is 1 for yes and 0 for no.
@@ -127,38 +129,38 @@ pub extern "C" fn measured_contains_null_or_utf8_4_byte_char_header(
     buf: &mut [u8],
 ) -> Outcome {
     let _ = buf;
-    tell_length(usize::from(active::contains_null_or_utf8_4_byte_char_header(bytes)))
+    outcome_of_length(usize::from(active::contains_null_or_utf8_4_byte_char_header(bytes)))
 }
 
 /// Calls `simd_cesu8::decode_to_slice`.
 #[unsafe(no_mangle)]
 pub extern "C" fn measured_decode_to_slice(bytes: &[u8], buf: &mut [u8]) -> Outcome {
-    tell_written(simd_cesu8::decode_to_slice(bytes, buf))
+    outcome_of_written_text(simd_cesu8::decode_to_slice(bytes, buf))
 }
 
 /// Calls `simd_cesu8::decode_strict_to_slice`.
 #[unsafe(no_mangle)]
 pub extern "C" fn measured_decode_strict_to_slice(bytes: &[u8], buf: &mut [u8]) -> Outcome {
-    tell_written(simd_cesu8::decode_strict_to_slice(bytes, buf))
+    outcome_of_written_text(simd_cesu8::decode_strict_to_slice(bytes, buf))
 }
 
 /// Calls `simd_cesu8::decode_lossy_to_slice`.
 #[unsafe(no_mangle)]
 pub extern "C" fn measured_decode_lossy_to_slice(bytes: &[u8], buf: &mut [u8]) -> Outcome {
-    tell_lossy_written(simd_cesu8::decode_lossy_to_slice(bytes, buf))
+    outcome_of_written_lossy_text(simd_cesu8::decode_lossy_to_slice(bytes, buf))
 }
 
 /// Calls `simd_cesu8::decode_lossy_strict_to_slice`.
 #[unsafe(no_mangle)]
 pub extern "C" fn measured_decode_lossy_strict_to_slice(bytes: &[u8], buf: &mut [u8]) -> Outcome {
-    tell_lossy_written(simd_cesu8::decode_lossy_strict_to_slice(bytes, buf))
+    outcome_of_written_lossy_text(simd_cesu8::decode_lossy_strict_to_slice(bytes, buf))
 }
 
 /// Calls `simd_cesu8::encode_to_slice`.
 #[unsafe(no_mangle)]
 pub extern "C" fn measured_encode_to_slice(text: &[u8], buf: &mut [u8]) -> Outcome {
     match text_of(text) {
-        Some(text) => tell_bytes_written(simd_cesu8::encode_to_slice(text, buf)),
-        None => without_answer(true),
+        Some(text) => outcome_of_written_bytes(simd_cesu8::encode_to_slice(text, buf)),
+        None => without_result(true),
     }
 }

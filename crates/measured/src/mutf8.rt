@@ -1,9 +1,11 @@
-//! The calls for MUTF-8.
+//! The exports for MUTF-8. Each calls the function of `simd_cesu8::mutf8` that it names, and
+//! returns an `Outcome` for C.
 
-use crate::each::tell_sum;
+use crate::each::outcome_of_sum;
 use crate::outcome::{
-    Outcome, tell_bytes, tell_bytes_written, tell_length, tell_lossy_text, tell_lossy_written,
-    tell_text, tell_written, without_answer,
+    Outcome, outcome_of_bytes, outcome_of_length, outcome_of_lossy_text, outcome_of_text,
+    outcome_of_written_bytes, outcome_of_written_lossy_text, outcome_of_written_text,
+    without_result,
 };
 use simd_cesu8::implementation::text_of;
 use simd_cesu8::mutf8;
@@ -13,15 +15,15 @@ use std::alloc::Global;
 #[unsafe(no_mangle)]
 pub extern "C" fn measured_mutf8_encode(alloc: Global, text: &[u8], buf: &mut [u8]) -> Outcome {
     match text_of(text) {
-        Some(text) => tell_bytes(mutf8::encode(alloc, text), buf),
-        None => without_answer(true),
+        Some(text) => outcome_of_bytes(mutf8::encode(alloc, text), buf),
+        None => without_result(true),
     }
 }
 
 /// Calls `mutf8::decode`.
 #[unsafe(no_mangle)]
 pub extern "C" fn measured_mutf8_decode(alloc: Global, bytes: &[u8], buf: &mut [u8]) -> Outcome {
-    tell_text(mutf8::decode(alloc, bytes), buf)
+    outcome_of_text(mutf8::decode(alloc, bytes), buf)
 }
 
 /// Calls `mutf8::decode_strict`.
@@ -31,7 +33,7 @@ pub extern "C" fn measured_mutf8_decode_strict(
     bytes: &[u8],
     buf: &mut [u8],
 ) -> Outcome {
-    tell_text(mutf8::decode_strict(alloc, bytes), buf)
+    outcome_of_text(mutf8::decode_strict(alloc, bytes), buf)
 }
 
 /// Calls `mutf8::encoded_len`. It writes nothing.
@@ -39,8 +41,8 @@ pub extern "C" fn measured_mutf8_decode_strict(
 pub extern "C" fn measured_mutf8_encoded_len(text: &[u8], buf: &mut [u8]) -> Outcome {
     let _ = buf;
     match text_of(text) {
-        Some(text) => tell_length(mutf8::encoded_len(text)),
-        None => without_answer(true),
+        Some(text) => outcome_of_length(mutf8::encoded_len(text)),
+        None => without_result(true),
     }
 }
 
@@ -49,8 +51,8 @@ pub extern "C" fn measured_mutf8_encoded_len(text: &[u8], buf: &mut [u8]) -> Out
 pub extern "C" fn measured_mutf8_lossy_len(bytes: &[u8], buf: &mut [u8]) -> Outcome {
     let _ = buf;
     match mutf8::lossy_len(bytes) {
-        Some(length) => tell_length(length),
-        None => without_answer(false),
+        Some(length) => outcome_of_length(length),
+        None => without_result(false),
     }
 }
 
@@ -58,7 +60,7 @@ pub extern "C" fn measured_mutf8_lossy_len(bytes: &[u8], buf: &mut [u8]) -> Outc
 #[unsafe(no_mangle)]
 pub extern "C" fn measured_mutf8_valid_up_to(bytes: &[u8], buf: &mut [u8]) -> Outcome {
     let _ = buf;
-    tell_length(mutf8::valid_up_to(bytes))
+    outcome_of_length(mutf8::valid_up_to(bytes))
 }
 
 /// Calls `mutf8::decode_lossy_strict`.
@@ -68,7 +70,7 @@ pub extern "C" fn measured_mutf8_decode_lossy_strict(
     bytes: &[u8],
     buf: &mut [u8],
 ) -> Outcome {
-    tell_lossy_text(mutf8::decode_lossy_strict(alloc, bytes), buf)
+    outcome_of_lossy_text(mutf8::decode_lossy_strict(alloc, bytes), buf)
 }
 
 /// Calls `mutf8::decode_lossy`.
@@ -78,7 +80,7 @@ pub extern "C" fn measured_mutf8_decode_lossy(
     bytes: &[u8],
     buf: &mut [u8],
 ) -> Outcome {
-    tell_lossy_text(mutf8::decode_lossy(alloc, bytes), buf)
+    outcome_of_lossy_text(mutf8::decode_lossy(alloc, bytes), buf)
 }
 
 /// Calls `mutf8::encode` on each text.
@@ -89,7 +91,7 @@ pub extern "C" fn measured_mutf8_encode_each(
     length: usize,
     times: usize,
 ) -> Outcome {
-    tell_sum(texts, length, times, |text| {
+    outcome_of_sum(texts, length, times, |text| {
         Some(mutf8::encode(alloc, text).ok()?.as_bytes().len())
     })
 }
@@ -101,25 +103,25 @@ pub extern "C" fn measured_mutf8_encoded_len_each(
     length: usize,
     times: usize,
 ) -> Outcome {
-    tell_sum(texts, length, times, |text| Some(mutf8::encoded_len(text)))
+    outcome_of_sum(texts, length, times, |text| Some(mutf8::encoded_len(text)))
 }
 
 /// Calls `mutf8::decode_to_slice`.
 #[unsafe(no_mangle)]
 pub extern "C" fn measured_mutf8_decode_to_slice(bytes: &[u8], buf: &mut [u8]) -> Outcome {
-    tell_written(mutf8::decode_to_slice(bytes, buf))
+    outcome_of_written_text(mutf8::decode_to_slice(bytes, buf))
 }
 
 /// Calls `mutf8::decode_strict_to_slice`.
 #[unsafe(no_mangle)]
 pub extern "C" fn measured_mutf8_decode_strict_to_slice(bytes: &[u8], buf: &mut [u8]) -> Outcome {
-    tell_written(mutf8::decode_strict_to_slice(bytes, buf))
+    outcome_of_written_text(mutf8::decode_strict_to_slice(bytes, buf))
 }
 
 /// Calls `mutf8::decode_lossy_to_slice`.
 #[unsafe(no_mangle)]
 pub extern "C" fn measured_mutf8_decode_lossy_to_slice(bytes: &[u8], buf: &mut [u8]) -> Outcome {
-    tell_lossy_written(mutf8::decode_lossy_to_slice(bytes, buf))
+    outcome_of_written_lossy_text(mutf8::decode_lossy_to_slice(bytes, buf))
 }
 
 /// Calls `mutf8::decode_lossy_strict_to_slice`.
@@ -128,14 +130,14 @@ pub extern "C" fn measured_mutf8_decode_lossy_strict_to_slice(
     bytes: &[u8],
     buf: &mut [u8],
 ) -> Outcome {
-    tell_lossy_written(mutf8::decode_lossy_strict_to_slice(bytes, buf))
+    outcome_of_written_lossy_text(mutf8::decode_lossy_strict_to_slice(bytes, buf))
 }
 
 /// Calls `mutf8::encode_to_slice`.
 #[unsafe(no_mangle)]
 pub extern "C" fn measured_mutf8_encode_to_slice(text: &[u8], buf: &mut [u8]) -> Outcome {
     match text_of(text) {
-        Some(text) => tell_bytes_written(mutf8::encode_to_slice(text, buf)),
-        None => without_answer(true),
+        Some(text) => outcome_of_written_bytes(mutf8::encode_to_slice(text, buf)),
+        None => without_result(true),
     }
 }

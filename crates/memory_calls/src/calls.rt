@@ -1,6 +1,6 @@
 //! The calls by their names, and the printing of their results.
 
-use crate::prints::{tell, tell_bytes, tell_length, yes_or_no};
+use crate::prints::{print_bytes, print_length, print_outcome, yes_or_no};
 use crate::{faults, slices, streams};
 use java_text::{ReadFault, WriteFault, read_utf, read_utf_lossy, write_utf};
 use simd_cesu8::implementation::{active, fallback, simd, text_of, word};
@@ -58,18 +58,18 @@ fn make(rt: &HostRuntime, call: &str, bytes: &[u8]) -> io::Result<()> {
             tell_lossy(rt, flavors::decode_lossy_strict(rt.alloc(), flavor, bytes))
         }
         "into_string" => make_into_string(rt, flavor, bytes),
-        "decoded_len" => tell_length(rt, flavors::decoded_len(flavor, bytes)),
-        "lossy_len" => tell_length(rt, flavors::lossy_len(flavor, bytes)),
-        "valid_up_to" => tell_length(rt, Some(flavors::valid_up_to(flavor, bytes))),
+        "decoded_len" => print_length(rt, flavors::decoded_len(flavor, bytes)),
+        "lossy_len" => print_length(rt, flavors::lossy_len(flavor, bytes)),
+        "valid_up_to" => print_length(rt, Some(flavors::valid_up_to(flavor, bytes))),
         "active" | "fallback" | "simd" | "word" => ask_kernel(rt, call, flavor, bytes),
         "faults" => faults::show(rt, flavors::decode_strict(rt.alloc(), flavor, bytes)),
         "laws" => {
             use_laws();
-            tell(rt, "true", &[])
+            print_outcome(rt, "true", &[])
         }
         "text_of" => match text_of(bytes) {
-            Some(text) => tell(rt, "text", text.as_bytes()),
-            None => tell(rt, "none", &[]),
+            Some(text) => print_outcome(rt, "text", text.as_bytes()),
+            None => print_outcome(rt, "none", &[]),
         },
         "read_utf" => tell_read(rt, read_utf(rt.alloc(), bytes)),
         "read_utf_lossy" => tell_read(rt, read_utf_lossy(rt.alloc(), bytes)),
@@ -93,18 +93,18 @@ fn parse(call: &str) -> Option<(&str, Flavor)> {
 /// Makes a call that takes a string.
 fn make_of_text(rt: &HostRuntime, call: &str, flavor: Flavor, text: &str) -> io::Result<()> {
     match call {
-        "needs_encoded" => tell(rt, yes_or_no(flavors::needs_encoded(flavor, text)), &[]),
-        "encoded_len" => tell_length(rt, Some(flavors::encoded_len(flavor, text))),
-        "utf16_len" => tell_length(rt, Some(simd_cesu8::utf16_len(text))),
+        "needs_encoded" => print_outcome(rt, yes_or_no(flavors::needs_encoded(flavor, text)), &[]),
+        "encoded_len" => print_length(rt, Some(flavors::encoded_len(flavor, text))),
+        "utf16_len" => print_length(rt, Some(simd_cesu8::utf16_len(text))),
         "compare_as_utf16" => {
             let is_equal = simd_cesu8::compare_as_utf16(text, text).is_eq();
-            tell(rt, yes_or_no(is_equal), &[])
+            print_outcome(rt, yes_or_no(is_equal), &[])
         }
         "encode" => tell_encoded(rt, flavors::encode(rt.alloc(), flavor, text)),
         "into_vec" => make_into_vec(rt, flavor, text),
         "counted_len" => {
             let counted = flavors::counted(flavor, text);
-            tell_length(rt, Some(counted.encoded_len()))
+            print_length(rt, Some(counted.encoded_len()))
         }
         "counted" => append_counted(rt, Vec::new(rt.alloc()), flavors::counted(flavor, text)),
         "encode_into" => append(rt, Ok(Vec::new(rt.alloc())), flavor, text),
@@ -149,7 +149,7 @@ fn ask_kernel(rt: &HostRuntime, module: &str, flavor: Flavor, bytes: &[u8]) -> i
         (_, Flavor::Cesu8) => active::contains_utf8_4_byte_char_header(bytes),
         (_, Flavor::Mutf8) => active::contains_null_or_utf8_4_byte_char_header(bytes),
     };
-    tell(rt, yes_or_no(found), &[])
+    print_outcome(rt, yes_or_no(found), &[])
 }
 
 /// Calls the function of each law.
@@ -193,7 +193,7 @@ fn append(
     text: &str,
 ) -> io::Result<()> {
     let Ok(mut buf) = buf else {
-        return tell(rt, "memory", &[]);
+        return print_outcome(rt, "memory", &[]);
     };
     tell_appended(rt, flavors::encode_into(flavor, text, &mut buf), &buf)
 }
@@ -207,12 +207,12 @@ fn append_counted(rt: &HostRuntime, mut buf: Vec<u8>, counted: CountedText<'_>) 
 /// after an error.
 fn write(rt: &HostRuntime, buf: Result<Vec<u8>, AllocError>, text: &str) -> io::Result<()> {
     let Ok(mut buf) = buf else {
-        return tell(rt, "memory", &[]);
+        return print_outcome(rt, "memory", &[]);
     };
     match write_utf(text, &mut buf) {
         Ok(()) => tell_grown(rt, "written", &buf),
-        Err(WriteFault::TooLong(_)) => tell(rt, "too_long", buf.as_slice()),
-        Err(WriteFault::Memory) => tell(rt, "memory", buf.as_slice()),
+        Err(WriteFault::TooLong(_)) => print_outcome(rt, "too_long", buf.as_slice()),
+        Err(WriteFault::Memory) => print_outcome(rt, "memory", buf.as_slice()),
     }
 }
 
@@ -223,8 +223,8 @@ fn make_into_vec(rt: &HostRuntime, flavor: Flavor, text: &str) -> io::Result<()>
         Err(error) => Err(error),
     };
     match copied {
-        Ok(bytes) => tell(rt, "owned", bytes.as_slice()),
-        Err(_) => tell(rt, "memory", text.as_bytes()),
+        Ok(bytes) => print_outcome(rt, "owned", bytes.as_slice()),
+        Err(_) => print_outcome(rt, "memory", text.as_bytes()),
     }
 }
 
@@ -233,30 +233,30 @@ fn make_into_string(rt: &HostRuntime, flavor: Flavor, bytes: &[u8]) -> io::Resul
     let copied = match flavors::decode(rt.alloc(), flavor, bytes) {
         Ok(decoded) => decoded.into_string(rt.alloc()),
         Err(DecodeFault::Memory(error)) => Err(error),
-        Err(DecodeFault::Invalid(_)) => return tell(rt, "invalid", &[]),
+        Err(DecodeFault::Invalid(_)) => return print_outcome(rt, "invalid", &[]),
     };
     match copied {
-        Ok(text) => tell(rt, "owned", text.as_bytes()),
-        Err(_) => tell(rt, "memory", bytes),
+        Ok(text) => print_outcome(rt, "owned", text.as_bytes()),
+        Err(_) => print_outcome(rt, "memory", bytes),
     }
 }
 
 fn tell_encoded(rt: &HostRuntime, encoded: Result<CowBytes<'_>, AllocError>) -> io::Result<()> {
     match encoded {
-        Ok(encoded) => tell(rt, case_of(encoded.is_borrowed()), encoded.as_bytes()),
-        Err(_) => tell(rt, "memory", &[]),
+        Ok(encoded) => print_outcome(rt, case_of(encoded.is_borrowed()), encoded.as_bytes()),
+        Err(_) => print_outcome(rt, "memory", &[]),
     }
 }
 
 fn tell_text(rt: &HostRuntime, decoded: Result<CowText<'_>, DecodeFault>) -> io::Result<()> {
     match decoded {
-        Ok(decoded) => tell(
+        Ok(decoded) => print_outcome(
             rt,
             case_of(decoded.is_borrowed()),
             decoded.as_str().as_bytes(),
         ),
-        Err(DecodeFault::Invalid(_)) => tell(rt, "invalid", &[]),
-        Err(DecodeFault::Memory(_)) => tell(rt, "memory", &[]),
+        Err(DecodeFault::Invalid(_)) => print_outcome(rt, "invalid", &[]),
+        Err(DecodeFault::Memory(_)) => print_outcome(rt, "memory", &[]),
     }
 }
 
@@ -267,7 +267,7 @@ fn tell_appended(
 ) -> io::Result<()> {
     match appended {
         Ok(()) => tell_grown(rt, "appended", buf),
-        Err(_) => tell(rt, "memory", buf.as_slice()),
+        Err(_) => print_outcome(rt, "memory", buf.as_slice()),
     }
 }
 
@@ -275,7 +275,7 @@ fn tell_appended(
 /// buffer's bytes.
 fn tell_grown(rt: &HostRuntime, outcome: &str, buf: &Vec<u8>) -> io::Result<()> {
     println!(rt; "{outcome}, capacity {}", buf.capacity())?;
-    tell_bytes(rt, buf.as_slice())
+    print_bytes(rt, buf.as_slice())
 }
 
 fn case_of(is_borrowed: bool) -> &'static str {
@@ -291,11 +291,11 @@ fn tell_read(rt: &HostRuntime, read: Result<(CowText<'_>, &[u8]), ReadFault>) ->
     match read {
         Ok((text, rest)) => {
             tell_text(rt, Ok(text))?;
-            tell_bytes(rt, rest)
+            print_bytes(rt, rest)
         }
-        Err(ReadFault::Truncated) => tell(rt, "truncated", &[]),
-        Err(ReadFault::Invalid(_)) => tell(rt, "invalid", &[]),
-        Err(ReadFault::Memory) => tell(rt, "memory", &[]),
+        Err(ReadFault::Truncated) => print_outcome(rt, "truncated", &[]),
+        Err(ReadFault::Invalid(_)) => print_outcome(rt, "invalid", &[]),
+        Err(ReadFault::Memory) => print_outcome(rt, "memory", &[]),
     }
 }
 

@@ -1,6 +1,6 @@
-//! How the errors display.
+//! Prints how the errors display. `tests/memory.sh` compares the lines with what it expects.
 
-use crate::prints::{tell, yes_or_no};
+use crate::prints::{print_outcome, yes_or_no};
 use java_text::{ReadFault, ReadSliceFault, WriteFault, WriteSliceFault};
 use simd_cesu8::{CowText, DecodeFault, DecodeSliceFault, DecodingError, LossySliceFault};
 use std::alloc::AllocError;
@@ -17,14 +17,14 @@ pub fn show(rt: &HostRuntime, decoded: Result<CowText<'_>, DecodeFault>) -> io::
     println!(rt; "{}, {}", ReadFault::Truncated, ReadFault::Memory)?;
     match fault {
         DecodeFault::Invalid(error) => show_error(rt, error),
-        DecodeFault::Memory(_) => tell(rt, "memory", &[]),
+        DecodeFault::Memory(_) => print_outcome(rt, "memory", &[]),
     }
 }
 
 fn show_error(rt: &HostRuntime, error: DecodingError) -> io::Result<()> {
     println!(rt; "{error}, {error:?}, {}", ReadFault::Invalid(error))?;
     show_slice_faults(rt, error)?;
-    tell(rt, yes_or_no(error == error), &[])
+    print_outcome(rt, yes_or_no(error == error), &[])
 }
 
 /// Prints each error of the calls that write to a slice.

@@ -4,26 +4,26 @@ use std::io;
 use std::io::Write;
 
 /// Prints the outcome of a call, and its bytes on a line of their own.
-pub fn tell(rt: &HostRuntime, outcome: &str, bytes: &[u8]) -> io::Result<()> {
+pub fn print_outcome(rt: &HostRuntime, outcome: &str, bytes: &[u8]) -> io::Result<()> {
     println!(rt; "{outcome}")?;
-    tell_bytes(rt, bytes)
+    print_bytes(rt, bytes)
 }
 
 /// Prints bytes on a line of their own.
-pub fn tell_bytes(rt: &HostRuntime, bytes: &[u8]) -> io::Result<()> {
+pub fn print_bytes(rt: &HostRuntime, bytes: &[u8]) -> io::Result<()> {
     let mut stdout = io::writer(rt);
     stdout.write_all(bytes)?;
     stdout.write_all(b"\n")
 }
 
 /// Prints a length as the outcome.
-pub fn tell_length(rt: &HostRuntime, len: Option<usize>) -> io::Result<()> {
+pub fn print_length(rt: &HostRuntime, len: Option<usize>) -> io::Result<()> {
     match len {
         Some(len) => {
             println!(rt; "{len}")?;
-            tell_bytes(rt, &[])
+            print_bytes(rt, &[])
         }
-        None => tell(rt, "none", &[]),
+        None => print_outcome(rt, "none", &[]),
     }
 }
 

@@ -1,6 +1,6 @@
 //! The calls that write to the caller's buffer, and allocate nothing.
 
-use crate::prints::{tell, tell_bytes};
+use crate::prints::{print_bytes, print_outcome};
 use java_text::{
     ReadSliceFault, WriteSliceFault, read_utf_lossy_to_slice, read_utf_to_slice, write_utf_to_slice,
 };
@@ -103,14 +103,14 @@ impl<'a> Call<'a> {
         };
         match written {
             Ok((len, rest)) => {
-                tell(rt, "written", &room[..len.min(ROOM)])?;
+                print_outcome(rt, "written", &room[..len.min(ROOM)])?;
                 match rest {
-                    Some(rest) => tell_bytes(rt, rest),
+                    Some(rest) => print_bytes(rt, rest),
                     None => Ok(()),
                 }
             }
-            Err(Fault::Other(outcome)) => tell(rt, outcome, &[]),
-            Err(Fault::TooShort(_)) => tell(rt, "too_short", &[]),
+            Err(Fault::Other(outcome)) => print_outcome(rt, outcome, &[]),
+            Err(Fault::TooShort(_)) => print_outcome(rt, "too_short", &[]),
         }
     }
 }

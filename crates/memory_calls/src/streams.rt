@@ -1,6 +1,6 @@
 //! The calls that convert a piece to a buffer of the caller's, and make no request.
 
-use crate::prints::tell;
+use crate::prints::print_outcome;
 use cesu8_stream::{Progress, State, mutf8};
 use std::io;
 use test_cases::flavors::Flavor;
@@ -14,7 +14,7 @@ pub fn make(rt: &HostRuntime, name: &str, flavor: Flavor, bytes: &[u8]) -> Optio
     let mut room = [0; ROOM];
     let progress = convert(name, flavor, bytes, &mut room)?;
     let written = &room[..progress.written.min(ROOM)];
-    Some(tell(rt, reason(progress.state), written))
+    Some(print_outcome(rt, reason(progress.state), written))
 }
 
 /// Makes the call of a name.

@@ -1,5 +1,5 @@
-//! Reads all strings of class files: a jar has hundreds of thousands of short constants, one behind
-//! the other, nearly all of them ASCII.
+//! Reads all strings of class files. A jar has hundreds of thousands of short constants, one after
+//! another, nearly all of them ASCII.
 
 use crate::digest::Digest;
 use crate::pool::Pool;
@@ -26,7 +26,7 @@ pub fn run(
     Ok(())
 }
 
-/// Reads the strings one behind the other.
+/// Reads the strings one after another.
 fn read_all(alloc: Global, pool: &Pool, digest: &mut Digest) {
     let mut rest = pool.bytes();
     for _ in 0..pool.len() {
@@ -61,7 +61,7 @@ fn strings(alloc: Global, random: &mut Random) -> Result<Pool, AllocError> {
     Ok(pool)
 }
 
-/// Makes a constant of ASCII: a name, a class, a descriptor or a message.
+/// Appends an ASCII constant: the name of a member or a class, a descriptor or a message.
 fn push_constant(
     random: &mut Random,
     before: &mut String,
@@ -88,7 +88,7 @@ fn push_constant(
     }
 }
 
-/// Makes a name such as `getValue`.
+/// Appends a name such as `getValue`.
 fn push_name(random: &mut Random, out: &mut String) -> Result<(), AllocError> {
     for _ in 0..random.below(3) {
         let letters = random.within(2, 8);
@@ -98,7 +98,7 @@ fn push_name(random: &mut Random, out: &mut String) -> Result<(), AllocError> {
     Ok(())
 }
 
-/// Makes the name of a class, such as `java/util/List`.
+/// Appends the name of a class, such as `java/util/List`.
 fn push_class(random: &mut Random, out: &mut String) -> Result<(), AllocError> {
     for _ in 0..random.within(1, 3) {
         let letters = random.within(3, 7);
@@ -108,7 +108,7 @@ fn push_class(random: &mut Random, out: &mut String) -> Result<(), AllocError> {
     push_name(random, out)
 }
 
-/// Makes a text in another language, one with an emoji, or one with U+0000.
+/// Appends a text that is not ASCII: in another language, with an emoji, or with U+0000.
 fn push_resource(random: &mut Random, out: &mut String) -> Result<(), AllocError> {
     let bytes = random.within(6, 60) as usize;
     match random.below(8) {

@@ -1,5 +1,5 @@
-//! Reads damaged dumps, with each damaged byte replaced, and tries to read what is something else,
-//! which is refused.
+//! Decodes damaged dumps lossily, and tries to decode strictly input that is not the encoding at
+//! all, which is an error.
 
 use crate::digest::Digest;
 use crate::pool::Pool;
@@ -11,7 +11,7 @@ use std::alloc::{AllocError, Global};
 /// The number of damaged texts.
 const TEXTS: usize = 600;
 
-/// The number of refused inputs.
+/// The number of inputs for strict decoding.
 const OTHERS: usize = 12_000;
 
 pub fn run(
@@ -26,12 +26,12 @@ pub fn run(
         texts.renew(round);
         others.renew(round);
         replace_all(alloc, &texts, digest)?;
-        refuse_all(alloc, &others, digest);
+        decode_strictly(alloc, &others, digest);
     }
     Ok(())
 }
 
-/// Reads the damaged texts, and the length of every second one before that.
+/// Decodes the damaged texts lossily, every second one after a call of `lossy_len`.
 fn replace_all(alloc: Global, texts: &Pool, digest: &mut Digest) -> Result<(), AllocError> {
     for index in 0..texts.len() {
         let bytes = texts.piece(index);
@@ -46,8 +46,8 @@ fn replace_all(alloc: Global, texts: &Pool, digest: &mut Digest) -> Result<(), A
     Ok(())
 }
 
-/// Tries to read other inputs. What is read is added, and each error counted.
-fn refuse_all(alloc: Global, others: &Pool, digest: &mut Digest) {
+/// Decodes the other inputs strictly. The digest gets each text, and 1 for each error.
+fn decode_strictly(alloc: Global, others: &Pool, digest: &mut Digest) {
     for index in 0..others.len() {
         let bytes = others.piece(index);
         let outcome = if index % 2 == 0 {
@@ -62,8 +62,8 @@ fn refuse_all(alloc: Global, others: &Pool, digest: &mut Digest) {
     }
 }
 
-/// Makes damaged texts, of some 60 bytes to 11 KB: cut at a length in bytes, with Latin-1 in
-/// between, or in the other encoding in part.
+/// Makes damaged texts of some 60 bytes to 11 KB. Some lines are truncated within a character, some
+/// contain Latin-1, and some UTF-8 with characters of four bytes.
 fn damaged(alloc: Global, random: &mut Random) -> Result<Pool, AllocError> {
     let mut pool = Pool::new(alloc);
     for _ in 0..TEXTS {
@@ -91,18 +91,18 @@ fn push_damaged_line(
     };
     push_words(random, script, 56, 20, &mut text)?;
     match random.below(12) {
-        // Raw UTF-8, with characters of four bytes.
+        // UTF-8 with characters of four bytes.
         0 => {
             push_words(random, script, 16, 2, &mut text)?;
             out.extend_from_slice(text.as_str().as_bytes())
         }
-        // Cut within a character, mostly.
+        // Truncated, mostly within a character.
         1 => {
             let encoded = encode(alloc, text.as_str())?;
             let end = encoded.as_bytes().len().saturating_sub(2);
             out.extend_from_slice(&encoded.as_bytes()[..end])
         }
-        // A letter of Latin-1 behind it.
+        // Followed by a letter of Latin-1.
         2 => {
             out.extend_from_slice(encode(alloc, text.as_str())?.as_bytes())?;
             out.extend_from_slice(&[random.byte() | 0xC0, b' '])
@@ -111,8 +111,8 @@ fn push_damaged_line(
     }
 }
 
-/// Makes inputs of 5 to 1,100 bytes that are mostly no encoding: Latin-1, UTF-8 with characters of
-/// four bytes, UTF-16, random bytes, or an encoding that is cut.
+/// Makes inputs of 5 to 1,100 bytes, most of which are not the encoding of any text: Latin-1, UTF-8
+/// with characters of four bytes, UTF-16, random bytes, or a truncated encoding.
 fn others(alloc: Global, random: &mut Random) -> Result<Pool, AllocError> {
     let mut pool = Pool::new(alloc);
     for _ in 0..OTHERS {
@@ -140,7 +140,7 @@ fn others(alloc: Global, random: &mut Random) -> Result<Pool, AllocError> {
     Ok(pool)
 }
 
-/// Appends each character as one byte.
+/// Appends the low byte of each character, as Latin-1 has it.
 fn push_latin1(text: &str, out: &mut Vec<u8>) -> Result<(), AllocError> {
     for character in text.chars() {
         out.push((u32::from(character) & 0xFF) as u8)?;
@@ -148,7 +148,7 @@ fn push_latin1(text: &str, out: &mut Vec<u8>) -> Result<(), AllocError> {
     Ok(())
 }
 
-/// Appends each character as two bytes, the low one first.
+/// Appends the low two bytes of each character, the low byte first, as UTF-16 has them.
 fn push_utf16(text: &str, out: &mut Vec<u8>) -> Result<(), AllocError> {
     for character in text.chars() {
         let number = u32::from(character);

@@ -4,7 +4,7 @@ ghost use Rattle.std.specs.Prelude.{◌+◌, ◌≤◌, length};
 
 use std::fmt;
 
-/// Two sums of all words, of which the second depends on their order.
+/// Two sums of all words. The second depends on their order.
 #[derive(Drop)]
 pub struct Digest {
     first: u64,
@@ -42,7 +42,7 @@ impl Digest {
             }
             return self.add(word_at(bytes, len - 8));
         }
-        // These four overlap and have all bytes, and no branch depends on how many there are.
+        // Four words that may overlap cover all bytes, so no branch depends on their number.
         self.add(word_at(bytes, 0));
         self.add(word_at(bytes, (len - 8).min(8)));
         self.add(word_at(bytes, len.max(16) - 16));

@@ -26,7 +26,7 @@ pub fn run(
     Ok(())
 }
 
-/// Converts a dump: whole, or line by line each second time.
+/// Converts a dump, in every second round line by line and otherwise as a whole.
 fn convert_all(
     alloc: Global,
     dump: &mut Pool,
@@ -43,7 +43,7 @@ fn convert_all(
     Ok(())
 }
 
-/// Converts some bytes to UTF-8, and the text back.
+/// Decodes the bytes, and encodes the text again.
 fn convert(alloc: Global, bytes: &[u8], digest: &mut Digest) -> Result<(), AllocError> {
     let Ok(text) = decode(alloc, bytes) else {
         digest.add(1);
@@ -61,7 +61,7 @@ fn dump(alloc: Global, random: &mut Random, script: Script) -> Result<Pool, Allo
         let mut before = String::new(alloc);
         let mut after = String::new(alloc);
         let bytes = random.within(76, 290) as usize;
-        // A line has one emoji in 50 to 500 characters, since a word has some five.
+        // With some five characters a word, a line has one emoji in 50 to 500 characters.
         let emoji_in = random.within(10, 80);
         push_words(random, script, bytes / 4, emoji_in, &mut before)?;
         push_words(random, script, bytes - bytes / 4, emoji_in, &mut after)?;

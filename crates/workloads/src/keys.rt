@@ -1,5 +1,5 @@
-//! Keeps titles and names in many languages as keys that order as UTF-16 does: reads the keys,
-//! sorts their texts and writes the keys again.
+//! Uses titles and names in many languages as keys of a store in the order of UTF-16: decodes the
+//! keys, sorts their texts and encodes them again.
 
 use crate::digest::Digest;
 use crate::pool::Pool;
@@ -13,10 +13,10 @@ use std::alloc::{AllocError, Global};
 /// The number of keys.
 const KEYS: usize = 16_384;
 
-/// How many are sorted at a time.
+/// How many keys are sorted at a time.
 const SORTED: usize = 512;
 
-/// More than any key has, in bytes.
+/// The size of a buffer in which any key fits, in bytes.
 const MOST: usize = 256;
 
 pub fn run(
@@ -34,12 +34,12 @@ pub fn run(
             write_sorted(alloc, &texts, digest)?;
             first = first.wrapping_add(SORTED);
         }
-        look_through(&pool, digest);
+        decode_to_buffer(&pool, digest);
     }
     Ok(())
 }
 
-/// Reads some keys.
+/// Decodes `SORTED` keys from this one on.
 fn read(alloc: Global, pool: &Pool, first: usize) -> Result<Vec<CowText<'_>>, AllocError> {
     let mut texts = Vec::new(alloc);
     for place in 0..SORTED {
@@ -50,7 +50,7 @@ fn read(alloc: Global, pool: &Pool, first: usize) -> Result<Vec<CowText<'_>>, Al
     Ok(texts)
 }
 
-/// Sorts texts and writes their keys, half of them one behind the other and half each by itself.
+/// Sorts texts and encodes them: half of them to one buffer, and each of the others by itself.
 fn write_sorted(
     alloc: Global,
     texts: &Vec<CowText<'_>>,
@@ -73,8 +73,8 @@ fn write_sorted(
     Ok(())
 }
 
-/// Reads all keys to a buffer for one.
-fn look_through(pool: &Pool, digest: &mut Digest) {
+/// Decodes all keys, each to the same buffer, as a search through them does.
+fn decode_to_buffer(pool: &Pool, digest: &mut Digest) {
     let mut buffer = [0; MOST];
     for index in 0..pool.len() {
         match decode_strict_to_slice(pool.piece(index), &mut buffer) {
@@ -84,7 +84,7 @@ fn look_through(pool: &Pool, digest: &mut Digest) {
     }
 }
 
-/// Makes the keys, of some 6 to 116 bytes, and mostly of 20 to 70.
+/// Makes the keys, of some 6 to 116 bytes, mostly 20 to 70.
 fn keys(alloc: Global, random: &mut Random) -> Result<Pool, AllocError> {
     let mut pool = Pool::new(alloc);
     for _ in 0..KEYS {

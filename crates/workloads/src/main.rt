@@ -1,9 +1,10 @@
-//! The jobs that users of `simd_cesu8` and `java_text` wait for, as workloads that `bench/run` times.
+//! The jobs that users of `simd_cesu8` and `java_text` wait for, as workloads that `bench/run`
+//! times.
 //!
 //! The arguments are the name of a workload, a seed for its inputs and a number of rounds. Each
-//! round changes every input, so no call is made twice on one. The program prints the name and a
-//! digest of all results, which two builds of the library have to agree on. The name `every` stands
-//! for all workloads.
+//! round changes every input, so no call gets the same input twice. The program prints the name and
+//! a digest of all results, which must be equal for two builds of the library. The name `every`
+//! means all workloads.
 #![tactic(auto)]
 
 mod class_files;

@@ -1,5 +1,5 @@
-//! Reads and writes again the metadata that compilers of Kotlin and Scala pack into strings of
-//! class files: long ones, in which many characters are U+0000 or have two bytes.
+//! Decodes and encodes the metadata that the compilers of Kotlin and Scala pack into strings of
+//! class files: long strings, in which many characters are U+0000 or have two bytes.
 
 use crate::digest::Digest;
 use crate::pool::Pool;
@@ -25,7 +25,7 @@ pub fn run(
     Ok(())
 }
 
-/// Reads the strings one behind the other, and writes each to one buffer.
+/// Decodes the strings one after another, and encodes all of them to one buffer.
 fn copy_all(alloc: Global, pool: &Pool, digest: &mut Digest) -> Result<(), AllocError> {
     let mut written = Vec::new(alloc);
     let mut rest = pool.bytes();
@@ -60,8 +60,8 @@ fn strings(alloc: Global, random: &mut Random) -> Result<Pool, AllocError> {
     Ok(pool)
 }
 
-/// Appends so many packed bytes, each as the character with its number: field by field, a tag, a
-/// small number, and now and then a large one.
+/// Appends `length` packed bytes, each as the character of that number. Most bytes are tags or small
+/// numbers.
 fn push_packed(random: &mut Random, length: u32, out: &mut String) -> Result<(), AllocError> {
     for _ in 0..length {
         let byte = match random.below(16) {

@@ -1,13 +1,14 @@
-//! The inputs of a workload, one behind the other.
+//! The inputs of a workload, one after another in one vector. Three letters of each change from
+//! round to round, so no result can be reused.
 
 ghost use Rattle.std.specs.Prelude.{◌<◌};
 
 use std::alloc::{AllocError, Global};
 
-/// How many letters of each piece change from round to round.
+/// How many letters of each piece change with the round.
 const MARK: usize = 3;
 
-/// Where a piece begins and ends, and where the letters are that change.
+/// The offsets at which a piece begins and ends, and of the letters that change.
 #[derive(Clone, Copy)]
 struct Piece {
     start: usize,
@@ -15,7 +16,7 @@ struct Piece {
     mark: usize,
 }
 
-/// Pieces of bytes, one behind the other.
+/// Pieces of bytes, one after another.
 #[derive(Drop)]
 pub struct Pool {
     bytes: Vec<u8>,
@@ -30,14 +31,14 @@ impl Pool {
         }
     }
 
-    /// Appends a piece, which is some bytes, the letters that change, and other bytes.
+    /// Appends a piece: `before`, the letters that change, and `after`.
     pub fn push(&mut self, before: &[u8], after: &[u8]) -> Result<(), AllocError> {
         let start = self.bytes.len();
         self.push_marked(start, before, after)
     }
 
-    /// Appends a piece as a Java string: with the length in front. More bytes than it can count are
-    /// left out.
+    /// Appends a piece as a length-prefixed Java string, unless it has more bytes than the prefix
+    /// can count.
     pub fn push_form(&mut self, before: &[u8], after: &[u8]) -> Result<(), AllocError> {
         let length = before
             .len()
@@ -61,7 +62,7 @@ impl Pool {
         Ok(())
     }
 
-    /// Changes the letters of each piece, so that none is as in another of 17,576 rounds.
+    /// Sets the letters of each piece for a round. They differ in each of 17,576 rounds.
     pub fn renew(&mut self, round: u32) {
         let letters = [letter(round / 676), letter(round / 26), letter(round)];
         let bytes = self.bytes.as_mut_slice();
@@ -83,7 +84,7 @@ impl Pool {
         self.pieces.len()
     }
 
-    /// Returns a piece, and the empty one behind the last.
+    /// Returns a piece, or no bytes if there is none with this index.
     #[inline(always)]
     pub fn piece(&self, index: usize) -> &[u8] {
         let bytes = self.bytes.as_slice();
@@ -96,7 +97,7 @@ impl Pool {
     }
 }
 
-/// Returns a letter for a number.
+/// Returns a letter for a number, by the remainder of 26.
 fn letter(number: u32) -> u8 {
     b'a' + (number % 26) as u8
 }

@@ -30,8 +30,8 @@ impl Random {
         least + self.below(most - least + 1)
     }
 
-    /// Returns `least`, doubled up to `doublings` times, and a number below `least` more. Each number
-    /// of doublings has the same chance.
+    /// Returns a number of any order of magnitude: `least` doubled at most `doublings` times, each
+    /// number of doublings with the same chance, plus a number below `least`.
     pub fn of_any_size(&mut self, least: u32, doublings: u32) -> u32
         requires { (0 < least) × (least < 65536) × (doublings < 12) }
     {
@@ -39,7 +39,7 @@ impl Random {
         base.wrapping_add(self.below(least))
     }
 
-    /// Returns whether a chance of one in `count` came true.
+    /// Returns true with a chance of one in `count`.
     pub fn one_in(&mut self, count: u32) -> bool
         requires { 0 < count }
     {

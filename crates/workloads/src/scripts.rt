@@ -5,7 +5,7 @@ ghost use Rattle.std.specs.Prelude.{◌<◌};
 use crate::random::Random;
 use std::alloc::AllocError;
 
-/// What the letters of a text are.
+/// The script of a text's letters.
 #[derive(Clone, Copy)]
 pub enum Script {
     Ascii,
@@ -71,7 +71,7 @@ pub fn push_emoji(random: &mut Random, out: &mut String) -> Result<(), AllocErro
     out.push(char_of(number))
 }
 
-/// Appends a word of so many letters.
+/// Appends a word of this many letters.
 pub fn push_word(
     random: &mut Random,
     script: Script,
@@ -84,8 +84,8 @@ pub fn push_word(
     Ok(())
 }
 
-/// Appends words, with spaces between them, up to so many bytes. About one word in `emoji_in` is an
-/// emoji, and none where that is 0.
+/// Appends words, with spaces between them, up to this many bytes. About one word in `emoji_in` is
+/// an emoji, or none if it is 0.
 pub fn push_words(
     random: &mut Random,
     script: Script,

@@ -1,5 +1,5 @@
-//! Reads the names and values of tag files (NBT), changes some, and writes them to one buffer. Each
-//! second time it only looks through them, by a buffer for one string.
+//! Decodes the names and values of tag files (NBT), changes some, and encodes them to one buffer.
+//! Every second round only decodes them, each to the same buffer, as a search does.
 
 use crate::digest::Digest;
 use crate::pool::Pool;
@@ -12,7 +12,7 @@ use std::alloc::{AllocError, Global};
 /// The number of tags.
 const TAGS: usize = 6_000;
 
-/// More than any value has, in bytes.
+/// The size of a buffer in which any value fits, in bytes.
 const MOST: usize = 512;
 
 pub fn run(
@@ -27,13 +27,13 @@ pub fn run(
         if round % 2 == 0 {
             rewrite(alloc, &pool, digest)?;
         } else {
-            look_through(&pool, digest);
+            decode_to_buffer(&pool, digest);
         }
     }
     Ok(())
 }
 
-/// Reads all strings, and writes them again. One value in four loses its first character.
+/// Decodes all strings, and encodes them again. One value in four loses its first character.
 fn rewrite(alloc: Global, pool: &Pool, digest: &mut Digest) -> Result<(), AllocError> {
     let mut written = Vec::new(alloc);
     let mut rest = pool.bytes();
@@ -64,8 +64,8 @@ fn without_first(text: &str) -> &str {
     chars.as_str()
 }
 
-/// Reads all strings to a buffer for one.
-fn look_through(pool: &Pool, digest: &mut Digest) {
+/// Decodes all strings, each to the same buffer.
+fn decode_to_buffer(pool: &Pool, digest: &mut Digest) {
     let mut buffer = [0; MOST];
     let mut rest = pool.bytes();
     for _ in 0..pool.len() {

@@ -142,10 +142,10 @@ pub fn decode_strict(bytes: &[u8]) -> Result<Cow<'_, str>, DecodingError> {
 /// before memory is allocated.
 #[inline]
 pub fn decode(bytes: &[u8]) -> Result<Cow<'_, str>, DecodingError> {
-    if let Some(text) = short::ascii::<false>(bytes) {
-        return Ok(Cow::Borrowed(text));
+    match short::lenient::<false>(bytes) {
+        Some(result) => result.map(Cow::Borrowed),
+        None => level::of_cesu8::decode(bytes),
     }
-    level::of_cesu8::decode(bytes)
 }
 
 /// Decodes CESU-8 that may be damaged: each encoded character, and U+FFFD for each byte in none.
@@ -186,10 +186,10 @@ pub fn decode_lossy_strict(bytes: &[u8]) -> Cow<'_, str> {
 #[must_use]
 #[inline]
 pub fn decode_lossy(bytes: &[u8]) -> Cow<'_, str> {
-    if let Some(text) = short::ascii::<false>(bytes) {
-        return Cow::Borrowed(text);
+    match short::lenient::<false>(bytes) {
+        Some(Ok(text)) => Cow::Borrowed(text),
+        _ => level::of_cesu8::decode_lossy(bytes),
     }
-    level::of_cesu8::decode_lossy(bytes)
 }
 
 /// Returns the length in bytes of the CESU-8 of a string.

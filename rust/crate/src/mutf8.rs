@@ -102,10 +102,10 @@ pub fn decode_strict(bytes: &[u8]) -> Result<Cow<'_, str>, DecodingError> {
 /// before memory is allocated.
 #[inline]
 pub fn decode(bytes: &[u8]) -> Result<Cow<'_, str>, DecodingError> {
-    if let Some(text) = short::ascii::<false>(bytes) {
-        return Ok(Cow::Borrowed(text));
+    match short::lenient::<true>(bytes) {
+        Some(result) => result.map(Cow::Borrowed),
+        None => level::of_mutf8::decode(bytes),
     }
-    level::of_mutf8::decode(bytes)
 }
 
 /// Decodes MUTF-8 that may be damaged: each encoded character, and U+FFFD for each byte in none.
@@ -146,10 +146,10 @@ pub fn decode_lossy_strict(bytes: &[u8]) -> Cow<'_, str> {
 #[must_use]
 #[inline]
 pub fn decode_lossy(bytes: &[u8]) -> Cow<'_, str> {
-    if let Some(text) = short::ascii::<false>(bytes) {
-        return Cow::Borrowed(text);
+    match short::lenient::<true>(bytes) {
+        Some(Ok(text)) => Cow::Borrowed(text),
+        _ => level::of_mutf8::decode_lossy(bytes),
     }
-    level::of_mutf8::decode_lossy(bytes)
 }
 
 /// Returns the length in bytes of the MUTF-8 of a string.

@@ -1,7 +1,7 @@
 //! The fast path: up to 64 bytes are tested before a level is called, since most strings are short
 //! and need no conversion. It is inlined into the caller.
 
-use crate::{SliceError, utf8};
+use crate::{DecodingError, SliceError, utf8};
 
 /// The most bytes that are tested.
 const SHORT: usize = 64;
@@ -25,6 +25,57 @@ pub(crate) fn ascii<const WITHOUT_NULL: bool>(bytes: &[u8]) -> Option<&str> {
     Some(unsafe { core::str::from_utf8_unchecked(bytes) })
 }
 
+/// Returns what a lenient call does of few bytes, if the test for UTF-8 alone decides that: if a
+/// strict call would return them unchanged or reject them. It rejects F0 and above. Only ED begins
+/// what it changes, or for MUTF-8, `WITH_NULL`, also C0; at most seven bytes are searched for these,
+/// for which a level takes longer than the test for UTF-8.
+#[inline]
+pub(crate) fn lenient<const WITH_NULL: bool>(bytes: &[u8]) -> Option<Result<&str, DecodingError>> {
+    let is_ascii = if bytes.len() < 8 {
+        let word = word_of_few(bytes);
+        let has = |byte: u64| any_zero(word ^ (HIGH >> 7) * byte);
+        let is_ascii = word & HIGH == 0;
+        if !is_ascii && (has(0xED) || WITH_NULL && has(0xC0)) {
+            return None;
+        }
+        is_ascii
+    } else {
+        let is_ascii = bytes.len() <= SHORT && !any_in_short::<NON_ASCII, false>(bytes);
+        if !is_ascii && (bytes.len() > SHORT || !any_in_short::<LEAD_OF_FOUR, false>(bytes)) {
+            return None;
+        }
+        is_ascii
+    };
+    if !is_ascii && !utf8::is_utf8(bytes) {
+        return Some(Err(DecodingError(())));
+    }
+    // SAFETY: ASCII is UTF-8, and other bytes are tested.
+    Some(Ok(unsafe { core::str::from_utf8_unchecked(bytes) }))
+}
+
+/// Returns a word of the bytes, which are at most seven. Each is there, and some are twice.
+#[inline]
+fn word_of_few(bytes: &[u8]) -> u64 {
+    let half = |at: usize| {
+        bytes[at..].first_chunk().map_or(0, |half| u64::from(u32::from_le_bytes(*half)))
+    };
+    let len = bytes.len();
+    match len {
+        0 => 0,
+        1..4 => {
+            let (first, middle, last) = (bytes[0], bytes[len / 2], bytes[len - 1]);
+            u64::from(u32::from_le_bytes([first, middle, last, last]))
+        }
+        _ => half(0) | half(len - 4) << 32,
+    }
+}
+
+/// Returns whether a byte of the word is 0.
+#[inline]
+fn any_zero(word: u64) -> bool {
+    word.wrapping_sub(HIGH >> 7) & !word & HIGH != 0
+}
+
 /// Copies the bytes to a slice if they are few and all ASCII. With `WITHOUT_NULL` no byte may be 00.
 /// It is not inlined, so that each call to a slice has no copy of it.
 #[inline(never)]
@@ -43,7 +94,7 @@ pub(crate) fn lenient_to_slice(
     strict: impl FnOnce(&[u8], &mut [u8]) -> Result<usize, SliceError>,
 ) -> Result<usize, SliceError> {
     match strict(bytes, buf) {
-        Err(SliceError::Invalid) if utf8::from_utf8(bytes).is_some() => copy(bytes, buf),
+        Err(SliceError::Invalid) if utf8::is_utf8(bytes) => copy(bytes, buf),
         result => result,
     }
 }
@@ -104,18 +155,12 @@ fn any_in_words<const LEAST: u8, const OR_NULL: bool>(bytes: &[u8]) -> bool {
         Some(word) => test(u64::from_le_bytes(*word)),
         None => HIGH,
     };
-    let half = |at: usize| {
-        bytes[at..].first_chunk().map_or(0, |half| u64::from(u32::from_le_bytes(*half)))
-    };
     let found = match len {
         0 => 0,
         // A text that is so short has no character of four bytes.
         1..4 if LEAST == LEAD_OF_FOUR && !OR_NULL => 0,
-        1..4 => {
-            let (first, middle, last) = (bytes[0], bytes[len / 2], bytes[len - 1]);
-            test(u64::from(u32::from_le_bytes([first, middle, last, last])) | HIGH >> 7 << 32)
-        }
-        4..8 => test(half(0) | half(len - 4) << 32),
+        1..4 => test(word_of_few(bytes) | HIGH >> 7 << 32),
+        4..8 => test(word_of_few(bytes)),
         8..=16 => word(0) | word(len - 8),
         _ => {
             let mut found = word(len - 8);

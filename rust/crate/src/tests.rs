@@ -490,7 +490,18 @@ fn level() {
 /// ASCII.
 #[test]
 fn fast_path() {
-    let odd: [&[u8]; 6] = [b"", b"\0", b"\x80", b"\xF0\x9F\x92\x96", b"\x7F", b"\xC0\x80"];
+    let odd: [&[u8]; 10] = [
+        b"",
+        b"\0",
+        b"\x80",
+        b"\xF0\x9F\x92\x96",
+        b"\x7F",
+        b"\xC0\x80",
+        b"\xC3\xA9",
+        b"\xED\x9F\xBF",
+        b"\xED\xA0\xBD\xED\xB2\x96",
+        b"\xFF",
+    ];
     for len in 0..=70 {
         for at in 0..=len {
             for odd in odd {

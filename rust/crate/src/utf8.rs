@@ -14,6 +14,13 @@ pub(crate) fn from_utf8(bytes: &[u8]) -> Option<&str> {
     core::str::from_utf8(bytes).ok()
 }
 
+/// Returns whether the bytes are UTF-8. The text that `from_utf8` returns is not used: a copy of it
+/// would wait for the stores of its two fields.
+#[inline]
+pub(crate) fn is_utf8(bytes: &[u8]) -> bool {
+    from_utf8(bytes).is_some()
+}
+
 /// Splits bytes after the whole characters of UTF-8 with which they begin.
 pub(crate) fn split_valid(bytes: &[u8]) -> (&str, &[u8]) {
     match core::str::from_utf8(bytes) {

@@ -1,6 +1,6 @@
 //! Searches for a byte of a class.
 //!
-//! Two vectors of equal width cover at most 64 bytes. Longer input is tested by four vectors of 64
+//! Two vectors of equal width cover at most 128 bytes. Longer input is tested by four vectors of 64
 //! bytes at once, and its end by a vector that overlaps those before it, so no byte is left over.
 //!
 //! Everything is inlined: a call would pass vectors through memory, and most input is short.
@@ -16,18 +16,6 @@ use std::simd::prelude::*;
 /// Returns whether some byte is in the class.
 #[inline(always)]
 pub fn any_in_bytes<C: InAllVectors + InGroups<LANES>>(bytes: &[u8]) -> bool
-    ensures { IsTrue result ↔ AnyIn C.class bytes.now }
-{
-    if !are_short(bytes) {
-        return any_in_long::<C>(bytes);
-    }
-    by_two_vectors!(bytes, any_in_ends[C](bytes), false)
-}
-
-/// Like `any_in_bytes`, but tests 65 to 128 bytes with two 64-byte vectors. The code is larger, so
-/// only `is_short_unchanged_ascii` uses it.
-#[inline(always)]
-pub fn any_in_first_look<C: InAllVectors + InGroups<LANES>>(bytes: &[u8]) -> bool
     ensures { IsTrue result ↔ AnyIn C.class bytes.now }
 {
     if are_short(bytes) {

@@ -11,8 +11,7 @@ use Rattle.std.proofs.lemmas.Nat.Bits.{bit_at-lt, bit_at_above, same_from_bits}
 use Rattle.std.proofs.lemmas.Simd.{bit_mask_l}
 use lib.Lanes.{sel_l, chunk}
 use Rattle.std.proofs.Math.Seq.{take-append_seam}
-use Rattle.std.proofs.lemmas.Simd.{map-map, mask_l-lt}
-use Rattle.std.proofs.Math.Pow.{pow_mono}
+use Rattle.std.proofs.lemmas.Simd.{map-map}
 use Rattle.std.proofs.lemmas.List.FromFn.{take-map-range_with_len}
 use Rattle.cesu8_bytes.specs.Puts.{WritesAt}
 use Rattle.cesu8_bytes.proofs.lists.Stored.{first_written, written_behind}
@@ -21,14 +20,15 @@ use Rattle.std.proofs.lemmas.Bool.{ne_eqb, cases_eq}
 use Rattle.std.proofs.lemmas.Nat.Bits.{bit_at-zero}
 use Rattle.std.proofs.Math.Nat.{div-le_self}
 use Rattle.cesu8_text.specs.Encoding.{Flavor}
-use Rattle.cesu8_bytes.specs.declared.strictness.Strictness.TheVariants.{Lossy}
 use Rattle.cesu8_decode.specs.DecodedOffsets.{window_of, is_boundary_at, is_ill_formed_at, decoded_at, decoded}
 use Rattle.cesu8_decode.specs.Masks.{IsWindow, is_null_at, is_pair_at}
 use Rattle.cesu8_decode.specs.declared.lanes.windows.Window.{Window}
 use Rattle.cesu8_decode.proofs.by_offset.WindowOffsets.{decoded_split}
 use Rattle.cesu8_decode.proofs.chunks.Changed.{null_lead}
 use Rattle.cesu8_decode.proofs.decoder.EventBits.{unset}
-use Rattle.cesu8_decode.proofs.decoder.Events.{marked, unmarked, shifted_first, shifted_next, none_changes, no_pair_begins, ends_within, none_inside, rest_bit}
+use Rattle.cesu8_decode.proofs.decoder.EventBits.{shifted_first, shifted_next}
+use Rattle.cesu8_decode.proofs.decoder.MaskBits.{rest_bit, marks_fit}
+use Rattle.cesu8_decode.proofs.decoder.WindowEnds.{none_changes, null_set, ill_set, pair_unset, null_unset, ill_unset, none_in_window, ends_within, none_inside}
 use Rattle.cesu8_decode.proofs.decoder.EventsDecoded.{plain_at, no_lone_lead, null_wide, null_at_decoded, replaced_at}
 use Rattle.cesu8_bytes.specs.Packing.{written_for, written}
 
@@ -134,6 +134,40 @@ range_most : (h : ℕ → List ℕ) (a n : ℕ) → ((i : ℕ) → length (h i) 
 range_most h a zero few = omega arith
 range_most h a (suc n) few = omega (arith, length-append (h a) (flat_map h (range_with_len (a + 1) n)), few a, range_most h (a + 1) n few)
 
+-- ---- the next lanes
+
+-- Lanes are packed by the bits of a word, each by `pack`.
+module _ (pack : Bool → ℕ → List ℕ) (word : ℕ) (fits : word < 2 ^ 64) (bytes : List ℕ) (at size : ℕ) (few : size ≤ 64) (all : List Bool → List ℕ → List ℕ)
+    (each : (t : ℕ → Bool) (z : ℕ → ℕ) → all (map t (range_with_len 0 size)) (map z (range_with_len 0 size)) ≡ flat_map (λ i. pack (t i) (z i)) (range_with_len 0 size)) where
+  abbrev packs : ℕ → List ℕ
+  packs i = pack (eqb (bit_at word i) 1) (get_or bytes (at + i) 0)
+
+  -- The lanes from an offset on are stored after those before them.
+  next_written : (k end middle last : ℕ) (old mid new : List ℕ) → at + k + size ≤ length bytes → WritesAt (flat_map packs (range_with_len 0 k)) end old mid middle →
+      ((tests : List Bool) → size ≤ length tests → word / 2 ^ k ≡ mask_l tests → WritesAt (all (take size tests) (chunk (at + k) size bytes)) middle mid new last) →
+      WritesAt (flat_map packs (range_with_len 0 (k + size))) end old new last
+  next_written k end middle last old mid new room before stored =
+      let rest = word / 2 ^ k in
+      let t : ℕ → Bool = λ i. eqb (bit_at rest i) 1 in
+      let z : ℕ → ℕ = λ i. get_or bytes (i + (at + k)) 0 in
+      let below : rest < 2 ^ 64 = omega (arith, div-le_self word (2 ^ k)) in
+      let store = stored (map t (range_with_len 0 64)) (omega (arith, few, length-map-range_with_len t 0 64)) (bits_are rest 64 below) in
+      let tests = take-map-range_with_len t 0 64 size few in
+      let lanes : chunk (at + k) size bytes ≡ map z (range_with_len 0 size) =
+      ap (λ p. chunk p size bytes) (sym (zero-add (at + k))) ∙ loaded bytes 0 (at + k) size (omega (arith, room)) in
+      let are : all (take size (map t (range_with_len 0 64))) (chunk (at + k) size bytes) ≡ flat_map packs (range_with_len k size) =
+      (λ j. all (tests j) (lanes j)) ∙ each t z
+      ∙ range_same (λ i. pack (t i) (z i)) packs 0 k size (λ j inside.
+      let here : 0 + j ≡ j = zero-add j in
+      let offset : 0 + j + (at + k) ≡ at + (k + j) = omega arith in
+      let bit = ap (bit_at rest) here ∙ rest_bit word k fits j in
+      (λ q. pack (eqb (bit q) 1) (get_or bytes (offset q) 0))) in
+      let here : 0 + k ≡ k = zero-add k in
+      subst (λ bs. WritesAt bs end old new last)
+      (ap (λ n. flat_map packs (range_with_len 0 k) ++ flat_map packs (range_with_len n size)) (sym here) ∙ sym (range_split packs 0 k size))
+      (written_behind (flat_map packs (range_with_len 0 k)) (flat_map packs (range_with_len k size)) old mid new end middle last before
+      (subst (λ bs. WritesAt bs middle mid new last) are store))
+
 -- ---- C0 80
 
 -- What is packed for an offset, by the mask of C0 80.
@@ -153,28 +187,18 @@ module _ (f : Flavor) (bytes : List ℕ) (at : ℕ) (window : Window) (is : IsWi
   packed = null_packed bytes at window.nulls
 
   fine_at : (i : ℕ) → at ≤ i → i < at + window.len → is_ill_formed_at f (window_of bytes) i ≡ false
-  fine_at i low inside =
-      let there : at + (i - at) ≡ i = omega arith in
-      ⊎_elim (λ (begins : i - at < is.n).
-      ap (is_ill_formed_at f (window_of bytes)) (sym there)
-      ∙ unmarked window.ill_formed (is_ill_formed_at f (window_of bytes)) at is.n is.ill_formed (i - at) (ap (λ m. bit_at m (i - at)) none ∙ bit_at-zero (i - at)) begins)
-      (λ (past : is.n ≤ i - at). (is.rest i (omega arith) inside).1)
-      (cases_lt (i - at) is.n)
+  fine_at = none_in_window f bytes at window is none
 
   pair_none : (i : ℕ) → at ≤ i → i < at + window.len → is_pair_at f bytes i ≡ false
-  pair_none = no_pair_begins Lossy is long no_pairs
+  pair_none i low inside = pair_unset is i low inside (ap (λ m. bit_at m (i - at)) no_pairs ∙ bit_at-zero (i - at))
 
   null_none : (i : ℕ) → i < window.len → bit_at window.nulls i ≡ 0 → is_null_at f bytes (at + i) ≡ false
   null_none i inside unset =
-      ⊎_elim (λ (begins : i < is.n). unmarked window.nulls (is_null_at f bytes) at is.n is.nulls i unset begins)
-      (λ (past : is.n ≤ i). (none_changes Lossy is long (at + i) (is.rest (at + i) (omega arith) (omega arith)).0).1)
-      (cases_lt i is.n)
+      let there : at + i - at ≡ i = omega arith in
+      null_unset is (at + i) (omega arith) (omega arith) (ap (bit_at window.nulls) there ∙ unset)
 
   next_bit : (i : ℕ) → i < 64 → bit_at window.nulls i ≡ 0 → bit_at left_out (i + 1) ≡ 0
-  next_bit i small unset =
-      ⊎_elim (λ (inside : i + 1 < 64). shifted_next window.nulls (i + 1) i inside refl ∙ unset)
-      (λ (past : 64 ≤ i + 1). bit_at_above left_out 64 (i + 1) (omega arith) past)
-      (cases_lt (i + 1) 64)
+  next_bit i small unset = grind (arith, nat_tests, shifted_next, bit_at_above)
 
   stays_packed : (i : ℕ) → bit_at left_out i ≡ 0 → byte i ≢ 0xC0 → packed i ≡ byte i ∷ []
   stays_packed i unset other = rw (unset, ne_eqb (byte i) 0xC0 other) refl
@@ -193,13 +217,13 @@ module _ (f : Flavor) (bytes : List ℕ) (at : ℕ) (window : Window) (is : IsWi
   packed_from zero (suc r) i few there clear before = absurd (omega arith)
   packed_from (suc m) (suc r) i few there clear before =
       ⊎_elim (λ (set : bit_at window.nulls i ≡ 1).
-      let begins = marked window.nulls (is_null_at f bytes) at is.n is.nulls i set in
+      let begins = null_set is i set in
       let fits : at + i + 2 ≤ length bytes = omega (arith, long, begins.0, is.len) in
       let wide = null_wide f bytes (at + i) fits begins.1 in
-      let within = ends_within Lossy is long i 2 (omega arith) wide begins.0 in
+      let within = ends_within is i 2 (omega arith) wide begins.0 in
       let next : bit_at window.nulls (i + 1) ≡ 0 = unset window.nulls (i + 1) (λ set.
-      true≢false (sym (marked window.nulls (is_null_at f bytes) at is.n is.nulls (i + 1) set).1
-      ∙ (none_changes Lossy is long (at + (i + 1)) (none_inside Lossy is long i 2 (omega arith) wide begins.0 (i + 1) (omega arith) (omega arith))).1)) in
+      true≢false (sym (null_set is (i + 1) set).1
+      ∙ (none_changes is (at + (i + 1)) (none_inside is i 2 (omega arith) wide begins.0 long (i + 1) (omega arith) (omega arith))).1)) in
       let all : 2 + (r - 1) ≡ suc r = omega arith in
       let after : at + (i + 2) ≡ at + i + 2 = omega arith in
       let second : i + 1 + 1 ≡ i + 2 = omega arith in
@@ -247,9 +271,9 @@ module _ (f : Flavor) (bytes : List ℕ) (at : ℕ) (window : Window) (is : IsWi
       let there : i ≡ i - 1 + 1 = omega (arith, later) in
       ap (bit_at left_out) there
       ∙ next_bit (i - 1) (omega arith) (unset window.nulls (i - 1) (λ set.
-      let begins = marked window.nulls (is_null_at f bytes) at is.n is.nulls (i - 1) set in
+      let begins = null_set is (i - 1) set in
       let fits : at + (i - 1) + 2 ≤ length bytes = omega (arith, long, begins.0, is.len) in
-      omega (arith, later, past, ends_within Lossy is long (i - 1) 2 (omega arith) (null_wide f bytes (at + (i - 1)) fits begins.1) begins.0))))
+      omega (arith, later, past, ends_within is (i - 1) 2 (omega arith) (null_wide f bytes (at + (i - 1)) fits begins.1) begins.0))))
       (cases_eq i 0) in
       ap length (written_clear clear)
     where
@@ -267,41 +291,17 @@ module _ (f : Flavor) (bytes : List ℕ) (at : ℕ) (window : Window) (is : IsWi
         subst (λ bs. WritesAt bs end old new (last - (m - window.len))) packed_all
         ((cut_back packed window.len m end last old new covered (λ i past inside. one_after i past (omega arith)) text).1 room)
 
-  -- A block is packed by the bits of its bytes.
-  pub block_packed : (k : ℕ) (block : List ℕ) → k + 32 ≤ 64 → block ≡ map (λ b. cond (eqb b 0xC0) 0 b) (chunk (at + k) 32 bytes) →
-      written (take 32 (map (λ i. eqb (bit_at (left_out / 2 ^ k) i) 1) (range_with_len 0 64))) (replicate 32 false) block ≡ flat_map packed (range_with_len k 32)
-  block_packed k block small block_is =
-      let t : ℕ → Bool = λ i. eqb (bit_at (left_out / 2 ^ k) i) 1 in
-      let z : ℕ → ℕ = λ i. cond (eqb (get_or bytes (i + (at + k)) 0) 0xC0) 0 (get_or bytes (i + (at + k)) 0) in
-      let tests = take-map-range_with_len t 0 64 32 (omega arith) in
-      let fits : left_out < 2 ^ 64 = omega arith in
-      let lanes : block ≡ map z (range_with_len 0 32) =
-      block_is ∙ ap (λ p. map (λ b. cond (eqb b 0xC0) 0 b) (chunk p 32 bytes)) (sym (zero-add (at + k)))
-      ∙ ap (map (λ b. cond (eqb b 0xC0) 0 b)) (loaded bytes 0 (at + k) 32 (omega (arith, long)))
-      ∙ map-map (λ b. cond (eqb b 0xC0) 0 b) (λ i. get_or bytes (i + (at + k)) 0) (range_with_len 0 32) in
-      (λ j. written (tests j) (replicate 32 false) (lanes j))
-      ∙ written_on_range t (λ _. false) z 0 32
-      ∙ range_same (λ i. written_for (t i) false (z i)) packed 0 k 32 (λ j inside.
-      let here : 0 + j ≡ j = zero-add j in
-      let offset : 0 + j + (at + k) ≡ at + (k + j) = omega arith in
-      let bit = ap (bit_at (left_out / 2 ^ k)) here ∙ rest_bit left_out k fits j in
-      (λ q. written_for (eqb (bit q) 1) false (cond (eqb (get_or bytes (offset q) 0) 0xC0) 0 (get_or bytes (offset q) 0))))
-
   -- The next block is stored after the blocks before it.
   pub block_written : (k end middle last : ℕ) (block old mid new : List ℕ) → k + 32 ≤ 64 → block ≡ map (λ b. cond (eqb b 0xC0) 0 b) (chunk (at + k) 32 bytes) →
       WritesAt (flat_map packed (range_with_len 0 k)) end old mid middle →
       ((tests : List Bool) → 32 ≤ length tests → left_out / 2 ^ k ≡ mask_l tests → WritesAt (written (take 32 tests) (replicate 32 false) block) middle mid new last) →
       WritesAt (flat_map packed (range_with_len 0 (k + 32))) end old new last
   block_written k end middle last block old mid new small block_is before stored =
-      let word = left_out / 2 ^ k in
-      let t : ℕ → Bool = λ i. eqb (bit_at word i) 1 in
-      let fits : word < 2 ^ 64 = omega (arith, div-le_self left_out (2 ^ k)) in
-      let store = stored (map t (range_with_len 0 64)) (omega (arith, length-map-range_with_len t 0 64)) (bits_are word 64 fits) in
-      let next = subst (λ bs. WritesAt bs middle mid new last) (block_packed k block small block_is) store in
-      let here : 0 + k ≡ k = zero-add k in
-      subst (λ bs. WritesAt bs end old new last)
-      (ap (λ n. flat_map packed (range_with_len 0 k) ++ flat_map packed (range_with_len n 32)) (sym here) ∙ sym (range_split packed 0 k 32))
-      (written_behind (flat_map packed (range_with_len 0 k)) (flat_map packed (range_with_len k 32)) old mid new end middle last before next)
+      let zeroed : ℕ → ℕ = λ b. cond (eqb b 0xC0) 0 b in
+      next_written (λ t b. written_for t false (zeroed b)) left_out (omega arith) bytes at 32 (omega arith) (λ tests bs. written tests (replicate 32 false) (map zeroed bs))
+      (λ t z. ap (written (map t (range_with_len 0 32)) (replicate 32 false)) (map-map zeroed z (range_with_len 0 32)) ∙ written_on_range t (λ _. false) (λ i. zeroed (z i)) 0 32)
+      k end middle last old mid new (omega (arith, long)) before
+      (λ tests many is. subst (λ bs. WritesAt (written (take 32 tests) (replicate 32 false) bs) middle mid new last) block_is (stored tests many is))
 
   pub few_packed : (n : ℕ) → length (flat_map packed (range_with_len 0 n)) ≤ n
   few_packed n = range_few packed 0 n (λ i. few_for (eqb (bit_at left_out i) 1) (cond (eqb (byte i) 0xC0) 0 (byte i)))
@@ -317,18 +317,6 @@ module _ (f : Flavor) (bytes : List ℕ) (at : ℕ) (window : Window) (is : IsWi
   abbrev stored : ℕ → List ℕ
   stored = replaced bytes at window.ill_formed
 
-  pairless : (i : ℕ) → at ≤ i → i < at + window.len → is_pair_at f bytes i ≡ false
-  pairless = no_pair_begins Lossy is long no_pairs
-
-  nullless : (i : ℕ) → at ≤ i → i < at + window.len → is_null_at f bytes i ≡ false
-  nullless i low inside =
-      let there : at + (i - at) ≡ i = omega arith in
-      ⊎_elim (λ (begins : i - at < is.n).
-      ap (is_null_at f bytes) (sym there)
-      ∙ unmarked window.nulls (is_null_at f bytes) at is.n is.nulls (i - at) (ap (λ m. bit_at m (i - at)) no_nulls ∙ bit_at-zero (i - at)) begins)
-      (λ (past : is.n ≤ i - at). (none_changes Lossy is long i (is.rest i (omega arith) inside).0).1)
-      (cases_lt (i - at) is.n)
-
   replaced_one : (i : ℕ) → bit_at window.ill_formed i ≡ 1 → stored i ≡ 0xEF ∷ 0xBF ∷ 0xBD ∷ []
   replaced_one i set = rw set refl
 
@@ -340,16 +328,16 @@ module _ (f : Flavor) (bytes : List ℕ) (at : ℕ) (window : Window) (is : IsWi
   stored_at : (i : ℕ) → i < window.len → stored i ≡ decoded_at f (window_of bytes) (at + i)
   stored_at i inside =
       ⊎_elim (λ (set : bit_at window.ill_formed i ≡ 1).
-      replaced_one i set ∙ replaced_at f bytes (at + i) (marked window.ill_formed (is_ill_formed_at f (window_of bytes)) at is.n is.ill_formed i set).1)
+      replaced_one i set ∙ replaced_at f bytes (at + i) (ill_set is i set).1)
       (λ (other : ¬ (bit_at window.ill_formed i ≡ 1)).
       let clear = unset window.ill_formed i other in
-      let fine : is_ill_formed_at f (window_of bytes) (at + i) ≡ false =
-      ⊎_elim (λ (begins : i < is.n). unmarked window.ill_formed (is_ill_formed_at f (window_of bytes)) at is.n is.ill_formed i clear begins)
-      (λ (past : is.n ≤ i). (is.rest (at + i) (omega arith) (omega arith)).1)
-      (cases_lt i is.n) in
+      let there : at + i - at ≡ i = omega arith in
+      let unset_in = λ (mask : ℕ) (none : mask ≡ 0) (i : ℕ). ap (λ m. bit_at m (i - at)) none ∙ bit_at-zero (i - at) in
+      let nullless = λ (i : ℕ) (low : at ≤ i) (inside : i < at + window.len). null_unset is i low inside (unset_in window.nulls no_nulls i) in
       kept_one i clear
-      ∙ sym (plain_at f bytes at window.len boundary pairless (at + i) (omega arith) (omega arith) (nullless (at + i) (omega arith) (omega arith))
-      (λ j low there. nullless j low (omega arith)) fine))
+      ∙ sym (plain_at f bytes at window.len boundary (λ i low inside. pair_unset is i low inside (unset_in window.pairs no_pairs i)) (at + i) (omega arith) (omega arith)
+      (nullless (at + i) (omega arith) (omega arith)) (λ j low there. nullless j low (omega arith))
+      (ill_unset is (at + i) (omega arith) (omega arith) (ap (bit_at window.ill_formed) there ∙ clear))))
       (cases_eq (bit_at window.ill_formed i) 1)
 
   stored_all : flat_map stored (range_with_len 0 window.len) ≡ decoded f (window_of bytes) at window.len
@@ -361,7 +349,7 @@ module _ (f : Flavor) (bytes : List ℕ) (at : ℕ) (window : Window) (is : IsWi
   one_stored : (i : ℕ) → window.len ≤ i → length (stored i) ≡ 1
   one_stored i past =
       ap length (kept_one i (unset window.ill_formed i (λ set.
-      omega (arith, past, is.len, (marked window.ill_formed (is_ill_formed_at f (window_of bytes)) at is.n is.ill_formed i set).0))))
+      omega (arith, past, is.len, (ill_set is i set).0))))
 
   module _ (m end last : ℕ) (old new : List ℕ) (covered : window.len ≤ m) (text : WritesAt (flat_map stored (range_with_len 0 m)) end old new last) where
     -- At least as many bytes are stored as there are offsets after the window.
@@ -375,10 +363,7 @@ module _ (f : Flavor) (bytes : List ℕ) (at : ℕ) (window : Window) (is : IsWi
         ((cut_back stored window.len m end last old new covered (λ i past inside. one_stored i past) text).1 room)
 
   ill_fits : window.ill_formed < 2 ^ 64
-  ill_fits =
-      let t = is_ill_formed_at f (window_of bytes) in
-      let bits = ap (λ k. 2 ^ k) (length-map-range_with_len t at is.n) in
-      omega (arith, is.ill_formed, mask_l-lt (map t (range_with_len at is.n)), bits, pow_mono is.few)
+  ill_fits = marks_fit (is_ill_formed_at f (window_of bytes)) at is.n is.few is.ill_formed
 
   -- The next sixteen bytes are stored after those before them.
   pub half_written : (k end middle last : ℕ) (half old mid new : List ℕ) → k + 16 ≤ 64 → half ≡ chunk (at + k) 16 bytes →
@@ -386,27 +371,9 @@ module _ (f : Flavor) (bytes : List ℕ) (at : ℕ) (window : Window) (is : IsWi
       ((tests : List Bool) → 16 ≤ length tests → window.ill_formed / 2 ^ k ≡ mask_l tests → WritesAt (written (replicate 16 false) (take 16 tests) half) middle mid new last) →
       WritesAt (flat_map stored (range_with_len 0 (k + 16))) end old new last
   half_written k end middle last half old mid new small half_is before put =
-      let word = window.ill_formed / 2 ^ k in
-      let t : ℕ → Bool = λ i. eqb (bit_at word i) 1 in
-      let z : ℕ → ℕ = λ i. get_or bytes (i + (at + k)) 0 in
-      let below : word < 2 ^ 64 = omega (arith, ill_fits, div-le_self window.ill_formed (2 ^ k)) in
-      let store = put (map t (range_with_len 0 64)) (omega (arith, length-map-range_with_len t 0 64)) (bits_are word 64 below) in
-      let tests = take-map-range_with_len t 0 64 16 (omega arith) in
-      let lanes : half ≡ map z (range_with_len 0 16) =
-      half_is ∙ ap (λ p. chunk p 16 bytes) (sym (zero-add (at + k))) ∙ loaded bytes 0 (at + k) 16 (omega (arith, long)) in
-      let block : written (replicate 16 false) (take 16 (map t (range_with_len 0 64))) half ≡ flat_map stored (range_with_len k 16) =
-      (λ j. written (replicate 16 false) (tests j) (lanes j))
-      ∙ written_on_range (λ _. false) t z 0 16
-      ∙ range_same (λ i. written_for false (t i) (z i)) stored 0 k 16 (λ j inside.
-      let here : 0 + j ≡ j = zero-add j in
-      let offset : 0 + j + (at + k) ≡ at + (k + j) = omega arith in
-      let bit = ap (bit_at word) here ∙ rest_bit window.ill_formed k ill_fits j in
-      (λ q. written_for false (eqb (bit q) 1) (get_or bytes (offset q) 0))) in
-      let next = subst (λ bs. WritesAt bs middle mid new last) block store in
-      let here : 0 + k ≡ k = zero-add k in
-      subst (λ bs. WritesAt bs end old new last)
-      (ap (λ n. flat_map stored (range_with_len 0 k) ++ flat_map stored (range_with_len n 16)) (sym here) ∙ sym (range_split stored 0 k 16))
-      (written_behind (flat_map stored (range_with_len 0 k)) (flat_map stored (range_with_len k 16)) old mid new end middle last before next)
+      next_written (λ t b. written_for false t b) window.ill_formed ill_fits bytes at 16 (omega arith) (λ tests bs. written (replicate 16 false) tests bs)
+      (λ t z. written_on_range (λ _. false) t z 0 16) k end middle last old mid new (omega (arith, long)) before
+      (λ tests many is. subst (λ bs. WritesAt (written (replicate 16 false) (take 16 tests) bs) middle mid new last) half_is (put tests many is))
 
   pub few_replaced : (n : ℕ) → length (flat_map stored (range_with_len 0 n)) ≤ 3 * n
   few_replaced n = range_most stored 0 n (λ i. most_for (eqb (bit_at window.ill_formed i) 1) (get_or bytes (at + i) 0))

@@ -3,5 +3,5 @@
 /// Returns whether the bytes are UTF-8.
 #[inline(never)]
 pub fn is_utf8_by_parts(bytes: &[u8]) -> bool {
-    crate::utf8::from_utf8(bytes).is_some()
+    crate::utf8::is_utf8(bytes)
 }

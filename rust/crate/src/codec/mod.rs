@@ -3,7 +3,7 @@
 //! `bytes`, `encode`, `decode` and `calls` are erased from the proved library by `erase.py`. The
 //! other modules are written by hand: `simd` and `memory` stand for parts of Rattle's standard
 //! library, `kit` for a crate of its kit, and `surface` has the calls with Rust's types.
-#![allow(dead_code, unused_imports, clippy::all)]
+#![allow(dead_code, unused_imports, unused_macros, clippy::all)]
 
 pub mod bytes;
 pub mod calls;

@@ -444,6 +444,19 @@ where
         simd(unsafe { Vector::load(slice.as_ptr().add(at)) })
     }
 
+    /// Loads the lanes from `before` bytes before an offset on. The compiler leaves out a test that was
+    /// done: mostly a load at the offset itself has tested that it is in bounds, and one from further
+    /// before it that it is no less than `before`.
+    #[cfg_attr(not(debug_assertions), inline(always))]
+    pub fn from_slice_before(slice: &[u8], at: usize, before: usize) -> Self {
+        let len = slice.len();
+        if len < N || at < before || at > len - N && at - before > len - N {
+            out_of_bounds();
+        }
+        // SAFETY: `N` bytes follow the offset less `before`, by the test.
+        simd(unsafe { Vector::load(slice.as_ptr().add(at - before)) })
+    }
+
     #[cfg_attr(not(debug_assertions), inline(always))]
     pub fn copy_to_slice(self, slice: &mut [u8]) {
         self.copy_to_slice_at(slice, 0);

@@ -13,16 +13,19 @@ use super::bytes::lanes::search::any_in_bytes;
 use super::bytes::lengths;
 use super::bytes::strictness::{LossyReading, Reading, StrictReading};
 use super::bytes::utf8::{known_string, known_text};
+use super::bytes::writing::copies::append_few;
 use super::calls::{self, TooShort, mutf8};
+use super::decode::front::{FoundFront, front_of_many};
+use super::decode::lanes::character_set::Unchanged;
 use super::decode::modes::{Accepts, EncodingAlone, Lenient, front_unless_kept};
-use super::decode::to_slice::decode_to_slice;
-use super::decode::front::FoundFront;
+use super::decode::pass::few::{FEW_STRICT, write_few};
 use super::decode::refusal::Unwritten;
+use super::decode::to_slice::decode_to_slice;
 use super::decode::valid::valid_up_to_other;
 use super::kit::is_utf8_by_parts;
 use super::memory::{AllocError, Global, Part};
 use super::{decode, encode};
-use crate::{DecodingError, SliceError};
+use crate::{DecodingError, SliceError, short};
 
 /// The length of a text fits no `usize`. Memory that is refused ends the process before.
 #[cold]
@@ -58,7 +61,13 @@ fn encoded_len<F: Flavor>(text: &str) -> usize {
 
 #[cfg_attr(not(debug_assertions), inline(always))]
 fn encoded<F: Flavor>(text: &str) -> Cow<'_, [u8]> {
-    if !contains_changed::<F>(text.as_bytes()) {
+    // The test of few bytes was inlined into the caller, and here it takes less than a call.
+    let is_unchanged = match (text.len() <= FEW, F::has_long_null()) {
+        (true, true) => short::is_unchanged::<true>(text),
+        (true, false) => short::is_unchanged::<false>(text),
+        _ => !contains_changed::<F>(text.as_bytes()),
+    };
+    if is_unchanged {
         return Cow::Borrowed(text.as_bytes());
     }
     match encode::encode::<F>(Global, text) {
@@ -95,17 +104,26 @@ impl Accepts for Tested {
     }
 }
 
-/// Returns `None` if a call that takes `A` borrows the bytes, or how many at the front are the same
-/// in UTF-8. With `LENIENT` it borrows all UTF-8: if that begins with a character that the encoding
-/// lacks, a test of what follows the front decides.
+/// Returns `None` if all bytes are the same in UTF-8, or how many at the start are.
 #[cfg_attr(not(debug_assertions), inline(always))]
-fn front_unless_borrowed<F: Flavor, const LENIENT: bool>(bytes: &[u8]) -> Option<FoundFront> {
-    let front = front_unless_kept::<F, Tested>(bytes)?;
-    let rest = bytes.part(front.len..);
-    if LENIENT && matches!(rest, [0 | 0xF0..=0xF7, ..]) && is_utf8_by_parts(rest) {
+fn front_unless_unchanged<F: Flavor, A: Accepts>(bytes: &[u8]) -> Option<FoundFront> {
+    if bytes.len() <= FEW {
+        return front_unless_kept::<F, Tested>(bytes);
+    }
+    if A::is_short_kept::<F>(bytes) {
         return None;
     }
-    Some(front)
+    // Inlined, unlike for fewer bytes, since it is little but a call.
+    let len = front_of_many::<F, Unchanged>(bytes);
+    if len == bytes.len() { None } else { Some(FoundFront { len, changed: 0 }) }
+}
+
+/// Returns whether bytes are UTF-8, of which `front` are. If they are, the encoding lacks the
+/// character after the front.
+#[cfg_attr(not(debug_assertions), inline(always))]
+fn is_utf8_after(front: FoundFront, bytes: &[u8]) -> bool {
+    let rest = bytes.part(front.len..);
+    matches!(rest, [0 | 0xF0..=0xF7, ..]) && is_utf8_by_parts(rest)
 }
 
 /// Decodes strictly. Input is rejected before memory is allocated.
@@ -113,47 +131,86 @@ fn front_unless_borrowed<F: Flavor, const LENIENT: bool>(bytes: &[u8]) -> Option
 fn strict<F: Flavor, A: Accepts, const LENIENT: bool>(
     bytes: &[u8],
 ) -> Result<Cow<'_, str>, DecodingError> {
-    if bytes.len() <= FEW {
-        return strict_few::<F, LENIENT>(bytes);
-    }
-    if A::is_short_kept::<F>(bytes) {
-        return Ok(Cow::Borrowed(known_text(bytes)));
-    }
-    let Some(front) = front_unless_borrowed::<F, LENIENT>(bytes) else {
-        return Ok(Cow::Borrowed(known_text(bytes)));
-    };
-    let rest = bytes.part(front.len..);
-    if valid_up_to_other::<F>(rest) < rest.len() {
-        return Err(DecodingError(()));
-    }
-    match decode::decode_strict::<F>(Global, bytes, front) {
-        Ok(text) => Ok(Cow::Owned(text)),
-        Err(_) => Err(DecodingError(())),
+    match front_unless_unchanged::<F, A>(bytes) {
+        None => Ok(Cow::Borrowed(known_text(bytes))),
+        Some(front) => strict_other::<F>(bytes, front, LENIENT),
     }
 }
 
-/// The same, for at most 64 bytes. What changes gets shorter, so a text of the same length is the
-/// bytes. No UTF-8 changes in strict decoding, so the test for it may come last.
+/// Decodes strictly what is not unchanged. It is one function for both modes, and not inlined, so that
+/// unchanged input has few registers to save.
 #[cfg_attr(not(debug_assertions), inline(always))]
-fn strict_few<F: Flavor, const LENIENT: bool>(bytes: &[u8]) -> Result<Cow<'_, str>, DecodingError> {
-    let mut text = [0; FEW];
-    match decode_to_slice::<F, Tested, StrictReading>(bytes, &mut text) {
-        Ok(len) if len == bytes.len() => Ok(Cow::Borrowed(known_text(bytes))),
-        Ok(len) => Ok(Cow::Owned(known_string(text.part(..len).to_vec()))),
-        Err(_) if LENIENT && is_utf8_by_parts(bytes) => Ok(Cow::Borrowed(known_text(bytes))),
-        Err(_) => Err(DecodingError(())),
+fn strict_other<F: Flavor>(
+    bytes: &[u8],
+    front: FoundFront,
+    is_lenient: bool,
+) -> Result<Cow<'_, str>, DecodingError> {
+    at_level! {
+        #[inline(never)] {
+            fn at_level<F: Flavor>(
+                bytes: &[u8],
+                front: FoundFront,
+                is_lenient: bool,
+            ) -> Result<Cow<'_, str>, DecodingError> {
+                // Of few bytes, none is ill-formed if it is known what changes.
+                if front.changed != 0 {
+                    return strict_few::<F>(bytes, front);
+                }
+                if is_lenient && is_utf8_after(front, bytes) {
+                    return Ok(Cow::Borrowed(known_text(bytes)));
+                }
+                if bytes.len() <= FEW {
+                    return Err(DecodingError(()));
+                }
+                strict_many::<F>(bytes, front)
+            }
+        } at_level::<F>(bytes, front, is_lenient)
+    }
+}
+
+/// Decodes strictly at most 64 bytes, of which some change.
+#[cfg_attr(not(debug_assertions), inline(always))]
+fn strict_few<F: Flavor>(bytes: &[u8], front: FoundFront) -> Result<Cow<'_, str>, DecodingError> {
+    let mut written = [0; FEW_STRICT];
+    let Ok(len) = write_few::<F, StrictReading>(bytes, front, &mut written) else {
+        return Err(DecodingError(()));
+    };
+    let mut text = Vec::with_capacity(len);
+    append_few(written.part(..len), &mut text);
+    Ok(Cow::Owned(known_string(text)))
+}
+
+/// Decodes strictly more than 64 bytes. It is not inlined, so that fewer have few registers to save.
+#[cfg_attr(not(debug_assertions), inline(always))]
+fn strict_many<F: Flavor>(bytes: &[u8], front: FoundFront) -> Result<Cow<'_, str>, DecodingError> {
+    at_level! {
+        #[inline(never)] {
+            fn at_level<F: Flavor>(
+                bytes: &[u8],
+                front: FoundFront,
+            ) -> Result<Cow<'_, str>, DecodingError> {
+                let rest = bytes.part(front.len..);
+                if valid_up_to_other::<F>(rest) < rest.len() {
+                    return Err(DecodingError(()));
+                }
+                match decode::decode_strict::<F>(Global, bytes, front) {
+                    Ok(text) => Ok(Cow::Owned(text)),
+                    Err(_) => Err(DecodingError(())),
+                }
+            }
+        } at_level::<F>(bytes, front)
     }
 }
 
 /// Decodes, and replaces what is ill-formed.
 #[cfg_attr(not(debug_assertions), inline(always))]
 fn lossy<F: Flavor, A: Accepts, const LENIENT: bool>(bytes: &[u8]) -> Cow<'_, str> {
-    if bytes.len() > FEW && A::is_short_kept::<F>(bytes) {
-        return Cow::Borrowed(known_text(bytes));
-    }
-    let Some(front) = front_unless_borrowed::<F, LENIENT>(bytes) else {
+    let Some(front) = front_unless_unchanged::<F, A>(bytes) else {
         return Cow::Borrowed(known_text(bytes));
     };
+    if LENIENT && is_utf8_after(front, bytes) {
+        return Cow::Borrowed(known_text(bytes));
+    }
     match decode::decode_lossy::<F>(Global, bytes, front) {
         Ok(text) => Cow::Owned(text),
         Err(AllocError) => capacity_overflow(),

@@ -3,9 +3,9 @@ use Rattle.cesu8_encode.proofs.encoder.EncodedRows.{shuffle_ok, stored_row}
 use Rattle.cesu8_encode.proofs.blocks.store_row.Goals as goal
 
 pub swizzle-packed : goal.swizzle-packed
-swizzle-packed c = shuffle_ok c.args.doubled _ c.requires.small (c.rows.ensures c.args.doubled c.requires.small)
+swizzle-packed c = shuffle_ok c.args.doubled _ c.requires.small (c.doubling_rows.ensures c.args.doubled c.requires.small)
 
 pub returns-clause-bytes : goal.returns-clause-bytes
 returns-clause-bytes c ts long is =
     stored_row c.args.out.now c.args.lanes _ c.args.at c.args.doubled ts c.fits-lanes.0 c.requires.small
-    (c.rows.ensures c.args.doubled c.requires.small) c.requires.room long is _ (omega arith)
+    (c.doubling_rows.ensures c.args.doubled c.requires.small) c.requires.room long is _ (omega arith)

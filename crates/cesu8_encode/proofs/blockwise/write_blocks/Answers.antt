@@ -2,21 +2,21 @@ use Rattle.std.proofs.Common.{◌∙◌, ap, arith, length}
 use Rattle.cesu8_encode.proofs.encoder.RecodedText.{recoded_chars}
 use Rattle.cesu8_encode.proofs.blockwise.write_blocks.Goals as goal
 
-pub write_first-end-requires-clause-room : goal.write_first-end-requires-clause-room
-write_first-end-requires-clause-room g c =
+pub write_first_block-end-requires-clause-room : goal.write_first_block-end-requires-clause-room
+write_first_block-end-requires-clause-room g c =
     omega (arith, ap length (recoded_chars g.F.Flavor.flavor c.args.text.now _ c.as_bytes-bytes.ensures.value c.utf8.text))
 
 pub write_middle-end-requires-clause-room : goal.write_middle-end-requires-clause-room
 write_middle-end-requires-clause-room g c =
     omega (arith, ap length (recoded_chars g.F.Flavor.flavor c.args.text.now _ c.as_bytes-bytes.ensures.value c.utf8.text))
 
-pub write_last-requires-clause-room : goal.write_last-requires-clause-room
-write_last-requires-clause-room g c =
+pub write_last_block-requires-clause-room : goal.write_last_block-requires-clause-room
+write_last_block-requires-clause-room g c =
     omega (arith, ap length (recoded_chars g.F.Flavor.flavor c.args.text.now _ c.as_bytes-bytes.ensures.value c.utf8.text))
 
 pub returns : goal.returns
 returns g c = record {
-  bytes = c.write_last.ensures.written.0 ∙ recoded_chars g.F.Flavor.flavor c.args.text.now _ c.as_bytes-bytes.ensures.value c.utf8.text;
-  end = c.write_last.ensures.written.1;
-  len = c.write_last.ensures.len ∙ c.write_middle-end.ensures.len ∙ c.write_first-end.ensures.len;
+  bytes = c.write_last_block.ensures.written.0 ∙ recoded_chars g.F.Flavor.flavor c.args.text.now _ c.as_bytes-bytes.ensures.value c.utf8.text;
+  end = c.write_last_block.ensures.written.1;
+  len = c.write_last_block.ensures.len ∙ c.write_middle-end.ensures.len ∙ c.write_first_block-end.ensures.len;
 }
