@@ -9,7 +9,8 @@
 #   below, and the proofs of std are public;
 # - no contract, ghost item or definition uses a name from a proof, except the proof of a trait's
 #   law;
-# - only the modules in the list below import one another. The list should become shorter.
+# - only the modules in the list below import one another. The list should become shorter;
+# - only crates whose names end in `_tests` have tests, since `rt ci` proves a crate with tests twice.
 # The status is 0 if nothing is wrong. It needs bash, awk, sed and the core utilities.
 set -u
 unset CDPATH
@@ -165,6 +166,9 @@ comm -13 "$scratch/known" "$scratch/cycles" |
     sed 's/^/a module that imports itself through others: /' >>"$scratch/wrong"
 comm -23 "$scratch/known" "$scratch/cycles" |
     sed 's/^/no longer in a cycle, and still in the list of tests\/layers.sh: /' >>"$scratch/wrong"
+
+grep -lF '#[test]' "${sources[@]}" | grep -v '^crates/[a-z0-9_]*_tests/' |
+    sed 's/^/a test in a crate that is not for tests: /' >>"$scratch/wrong"
 
 sed 's/^/wrong: /' "$scratch/wrong"
 echo "$(wc -l <"$scratch/files") files, $(wc -l <"$scratch/cycles") modules in a cycle," \
