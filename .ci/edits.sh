@@ -56,7 +56,7 @@ try_crate() {
     (cd "$from/crates/$crate" && awk -v to="$plan" -f "$from/.ci/rounds.awk" must-fail/*.edit)
     sed "s|^\([^\t]*\)\t|edit $crate/\1: not refused: |" "$plan/bad"
     while read -r -a names; do
-        try_round "$crate" "${names[@]}"
+        try_round "$(first_check "$crate" "${names[@]}")" "$crate" "${names[@]}"
     done <"$plan/rounds"
     rm -rf "$scratch/rounds/$crate"
 }
@@ -88,29 +88,59 @@ make_tree() {
     [[ ! -d $from/crates/$1/out/incremental ]] || cp -r "$from/crates/$1/out/incremental" "$tree/crates/$1/out"
 }
 
-# Lays edits of a crate into its tree, checks it once, and says which are refused: `try_round CRATE NAME..`.
+# The functions that edits change, by their paths below the crate. The kit has names of its own for those of
+# an impl, so its module stands for these. It fails if an edit changes something else:
+# `functions_of CRATE NAME..`.
+functions_of() {
+    local owners=("${@:2}")
+    owners=("${owners[@]/%/.owners}")
+    awk -F '\t' '
+        {
+            path = $5
+            sub(/^proofs\//, "", path)
+            sub(/\/?[A-Z].*/, "", path)
+            if ($5 == "any" || path == "") exit 1
+            gsub(/\//, "::", path)
+            if (!seen[path]++) print path
+        }
+    ' "${owners[@]/#/$scratch/rounds/$1.plan/}"
+}
+
+# How a round is checked first: `only` or `whole`, for `first_check CRATE NAME..`.
+first_check() {
+    if [[ -e $scratch/scripts/crates/$1/src/main.rt ]] && functions_of "$@" >/dev/null; then
+        echo only
+    else
+        echo whole
+    fi
+}
+
+# Lays edits of a crate into its tree, checks it once, and says which are refused. `only` checks the functions
+# that they change alone, and `whole` all of the crate: `try_round only|whole CRATE NAME..`.
 try_round() {
-    local crate=$1 tree=$scratch/rounds/$1 plan=$scratch/rounds/$1.plan status=0 name result why
-    local -a again=() owners
-    shift
+    local how=$1 crate=$2 tree=$scratch/rounds/$2 plan=$scratch/rounds/$2.plan status=0 name result why
+    local -a again=() owners functions=()
+    shift 2
     owners=("${@/%/.owners}")
+    [[ $how == whole ]] || mapfile -t functions < <(functions_of "$crate" "$@")
     lay_lines "$crate" "$@"
-    (cd "$tree/crates/$crate" && exec env TMPDIR="$scratch/rooms" rt check --jobs 1) \
+    (cd "$tree/crates/$crate" && exec env TMPDIR="$scratch/rooms" rt check --jobs 1 "${functions[@]/#/--only=}") \
         </dev/null >"$plan/said" 2>&1 || status=$?
     take_lines "$crate"
     while IFS=$'\t' read -r name result why; do
         if [[ $result == refused ]]; then
             echo "edit $crate/$name: refused: $why"
-        elif (($# > 1)); then
+        elif [[ $how == only ]] || (($# > 1)); then
             again+=("$name")
         else
             echo "edit $crate/$name: not refused: $why"
         fi
     done < <(awk -v status="$status" -f "$scratch/scripts/.ci/told.awk" "${owners[@]/#/$plan/}" "$plan/said")
-    if ((${#again[@]} > 0 && ${#again[@]} < $#)); then
-        try_round "$crate" "${again[@]}"
+    ((${#again[@]} > 0)) || return 0
+    if [[ $how == only ]] || ((${#again[@]} < $#)); then
+        try_round whole "$crate" "${again[@]}"
     else
-        for name in "${again[@]}"; do try_round "$crate" "$name"; done
+        for name in "${again[@]}"; do try_round whole "$crate" "$name"; done
     fi
 }
 

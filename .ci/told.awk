@@ -40,11 +40,12 @@ begin != "" && /^  / {
 
 { judge() }
 
-/^logic=not-proved/ { has_verdict = 1 }
+# The last line, of a whole check or of some functions alone.
+/^logic=not-proved|^only=[0-9]+ proved=/ { has_verdict = 1 }
 
 END {
     judge()
-    if (status == 0) all = "the crate is still proved"
+    if (status == 0) all = "what was checked is still proved"
     else if (unread != "") all = "the text can't be read: " unread
     else if (status != 1 || !has_verdict) all = "the check ended with status " status ", and no verdict"
     for (i = 1; i <= owners; i++) {

@@ -59,6 +59,7 @@ build() {
     objcopy --set-section-alignment '.text*=32' "$crate/out/libmeasured.a" "$out/$1/libmeasured.a"
 }
 
+# A build for another level is a shared object, so the kit's C library is linked into it.
 for level in $against; do
     build "$level"
     cc -shared -o "$out/$level/measured.so" -Wl,--whole-archive "$out/$level/libmeasured.a" \

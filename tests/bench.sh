@@ -1,7 +1,7 @@
 #!/usr/bin/env bash
-# Builds the driver of bench by bench/run.sh, and runs it for one round. Before that, the driver
-# compares what each measured call returns for many inputs. No time is looked at. It also looks at which
-# words bench/run.sh refuses before it builds, and at how the measured functions are aligned.
+# Builds the driver of bench by bench/run.sh, and runs it for one round. Before it measures, the driver
+# compares the result of each call for many inputs with a plain codec. Times are not tested. The script
+# also tests which arguments bench/run.sh rejects, and how the measured functions are aligned.
 #
 # In a clean clone it proves the libraries first. If there is no rustc that knows the edition 2024, it
 # says that it skipped all. The status is 0 if nothing is wrong. It needs the kit's `rt`, rustc, bash,
@@ -11,14 +11,14 @@ source "$(dirname "${BASH_SOURCE[0]}")/lib.sh" || exit 2
 # shellcheck source=tests/kit.sh
 source "$top/tests/kit.sh" || exit 2
 
-# That bench/run.sh prints its usage and ends with status 2, and builds nothing: `refuses WORD..`.
+# Tests that bench/run.sh prints its usage, ends with status 2, and builds nothing: `refuses WORD..`.
 refuses() {
     PATH=$scratch/none:$PATH bash "$top/bench/run.sh" "$@" >"$scratch/printed" 2>"$scratch/said"
     [[ $? == 2 && ! -s $scratch/printed && $(<"$scratch/said") == 'usage: bench/run.sh '* ]] ||
         wrong "bench/run.sh takes: $*"
 }
 
-# Here `rt` and `rustc` fail.
+# With this PATH `rt` and `rustc` fail, so nothing can be built.
 mkdir "$scratch/none" || exit 2
 printf '#!/bin/sh\nexit 1\n' | tee "$scratch/none/rt" >"$scratch/none/rustc"
 chmod +x "$scratch/none"/* || exit 2

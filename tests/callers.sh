@@ -31,11 +31,11 @@ by_flags() {
 }
 
 # Builds keys.c with the flags of pkg-config, as in C.md, with the shared object and without it:
-# `by_both WHAT FLAG..`. With the flags the loader finds the shared object.
+# `by_both WHAT FLAG..`. The FLAGs are needed for the loader to find the shared object.
 by_both() {
     local what=$1 cflags libs folders
     shift
-    # pkg-config puts a backslash before some characters of a path.
+    # pkg-config escapes some characters of a path with a backslash.
     eval "cflags=($(pkg-config --cflags cesu8))"
     eval "libs=($(pkg-config --libs cesu8))"
     eval "folders=($(pkg-config --libs-only-L cesu8))"
@@ -54,7 +54,7 @@ can_build_by_cmake() {
     can_build "$what" cmake -S "$folder" -B "$folder/build" "$@"
 }
 
-# Builds keys.c with CMake: `by_cmake WHAT FLAG..`. With the flags CMake finds the library.
+# Builds keys.c with CMake: `by_cmake WHAT FLAG..`. The FLAGs are needed for CMake to find the library.
 by_cmake() {
     local folder=$scratch/cmake what=$1
     shift

@@ -1,11 +1,11 @@
-// Calls each name of crates/cesu8_c/chooser.c with stubs in place of the code for both levels.
-// The script compiles the chooser so that it asks `made_up_supports` what the processor has. Each
-// name has to go to the code for x86-64-v3 where the processor has that level, and else to that for
-// x86-64-v2. Each argument has to arrive as it was, but for a null pointer. It prints what is wrong,
-// and ends with the counts. The status is 0 where nothing is wrong.
+// Calls each function of crates/cesu8_c/chooser.c with stubs in place of the code for both levels. The
+// script compiles the chooser so that it calls `made_up_supports` to ask for the processor's level. Each
+// function must call the code for x86-64-v3 if the processor has that level, and otherwise the code for
+// x86-64-v2. Each argument must be passed unchanged, except for a null pointer. The program prints what
+// is wrong, and the counts at the end. The status is 0 if nothing is wrong.
 //
-// With -DBEFORE_MAIN it is linked with the chooser as it is, and calls it before any constructor
-// has asked what the processor has: the code for x86-64-v2 has to be taken.
+// With -DBEFORE_MAIN it is linked with the unmodified chooser, and calls it before any constructor has
+// asked for the processor's level: then the code for x86-64-v2 must be used.
 
 #include "cesu8.h"
 
@@ -52,7 +52,7 @@ static struct {
         return name(input, n, buffer, m).status;                                                   \
     }
 
-// What is other input here is a buffer in `seen`.
+// The second input is recorded as the buffer in `seen`.
 #define STUB_COMPARED(result, name)                                                                \
     STUB_LEVEL(result, name, 2,                                                                    \
                (const uint8_t *input, size_t length, const uint8_t *other, size_t other_length),   \
@@ -65,7 +65,7 @@ static struct {
         return name(input, n, buffer, m).status;                                                   \
     }
 
-// The last argument arrives as it was, if it is true.
+// The last argument must be passed unchanged: it is true.
 #define STUB_LAST_PLACED(result, name)                                                             \
     STUB_LEVEL(result, name, 2,                                                                    \
                (const uint8_t *input, size_t length, uint8_t *buffer, size_t buffer_length,        \
@@ -142,7 +142,7 @@ static void hold(bool holds, const char *name, const char *what)
 
 static uint8_t some_bytes[8], some_buffer[8];
 
-// Makes one call, which has to reach the code for this level with these arguments.
+// Makes one call, which must reach the code for this level with these arguments.
 static void look(size_t row, int level)
 {
     memset(&seen, 0, sizeof seen);
@@ -185,7 +185,7 @@ int main(void)
 
 static const char *greatest;
 
-// Whether the made-up processor has a level: one that is not greater than its greatest.
+// Whether the made-up processor has a level: its own or a lower one.
 int made_up_supports(const char *level);
 int made_up_supports(const char *level)
 {

@@ -1,7 +1,7 @@
 #!/usr/bin/env bash
-# Runs the program as a person would: each case of tests/cli_cases.txt, and below it those that need
-# more than arguments and bytes. It compares the status, standard output and standard error, prints
-# each case that is wrong, and the counts at the end. The status is 0 if no case is wrong.
+# Runs the program as a user would: each case of tests/cli_cases.txt, and the cases below, which need more
+# than arguments and bytes. It compares the status, standard output and standard error, and prints each case
+# that is wrong, and the counts at the end. The status is 0 if no case is wrong.
 #
 # It needs the kit's `rt`, bash and the core utilities.
 # shellcheck source=tests/lib.sh
@@ -9,7 +9,7 @@ source "$(dirname "${BASH_SOURCE[0]}")/lib.sh" || exit 2
 
 cases=$top/tests/cli_cases.txt
 
-# Takes the blanks around the text of a variable off: `trim NAME`.
+# Removes the blanks around the text of a variable: `trim NAME`.
 trim() {
     local -n text_of=$1
     text_of=${text_of#"${text_of%%[![:blank:]]*}"}
@@ -23,7 +23,7 @@ bytes_of() {
     printf '%b' "$escapes"
 }
 
-# Compares the run that just ended with its status, the list of the bytes that it has to write, and its
+# Compares the last run with the expected status, the list of the bytes that it must write, and the error
 # line: `expect_bytes WHAT GOT-STATUS STATUS OUTPUT LINE`.
 expect_bytes() {
     status=$2
@@ -31,8 +31,8 @@ expect_bytes() {
     expect_run "$1" "$3" "$5" "$scratch/bytes"
 }
 
-# Keeps in word_list the words of a list such as 'encode cesu8'. A word in double quotes can be empty
-# or hold blanks.
+# Sets `word_list` to the words of a list such as 'encode cesu8'. A word in double quotes can be empty or
+# contain blanks.
 split_words() {
     local rest=$1 word
     word_list=()
@@ -77,7 +77,7 @@ device_failed='cesu8: input or output failed'
 
 bad_word=$'\xFF'
 
-# Runs a command for every pair of words, with these words: `every_pair COMMAND..`.
+# Runs a function for every command and flavor, with these as arguments: `every_pair COMMAND..`.
 every_pair() {
     local command flavor
     for command in encode needs decode decode-strict lossy lossy-strict; do
@@ -100,7 +100,7 @@ full_output() {
     expect_bytes "output of $1 $2 to a full device" $? 4 '' "$device_failed"
 }
 
-# The only reader of the pipe at 4 is gone.
+# The only reader of the pipe at descriptor 4 has ended.
 closed_pipe() {
     printf a >"$scratch/input"
     : >"$scratch/output"
@@ -111,7 +111,7 @@ closed_pipe() {
     rm "$scratch/pipe"
 }
 
-# A reader that ends early, of more than a pipe holds.
+# The output is longer than a pipe's buffer, and the reader ends early.
 early_end() {
     repeated 262144 a >"$scratch/input"
     printf a >"$scratch/wanted"
@@ -138,8 +138,8 @@ closed_streams() {
     expect_bytes 'all three closed' $? 4 '' ''
 }
 
-# A pipe at 3 with nothing in it, whose reads and writes do not wait. `dd` sets that of the pipe
-# itself, so that it holds for the program too.
+# An empty pipe at descriptor 3, whose reads and writes do not block. `dd` sets this for the pipe itself, so
+# that it applies to the program too.
 open_pipe() {
     mkfifo "$scratch/pipe" && exec 3<>"$scratch/pipe"
     rm "$scratch/pipe"
@@ -156,7 +156,7 @@ nothing_in_a_pipe() {
     exec 3>&-
 }
 
-# After a failed write a beginning of the answer in $scratch/wanted stands in $scratch/begun:
+# Tests that after a failed write $scratch/begun has a beginning of the output in $scratch/wanted:
 # `expect_begun WHAT GOT-STATUS`.
 expect_begun() {
     local len
@@ -166,14 +166,14 @@ expect_begun() {
     expect "$1, its bytes: $len of them" is_begun "$len"
 }
 
-# Whether so many bytes, and not all, are those of the answer: `is_begun LENGTH`.
+# Whether this many bytes are a beginning of the output, and not all of it: `is_begun LENGTH`.
 is_begun() {
     (($1 > 0 && $1 < $(stat -c %s "$scratch/wanted"))) &&
         cmp -s -n "$1" "$scratch/begun" "$scratch/wanted"
 }
 
-# Writes that fail after a part of the answer: to a pipe that does not wait and is full, and to a
-# file that may have no more than eight blocks.
+# Writes that fail after a part of the output: to a pipe that does not block and is full, and to a file that
+# is limited to eight blocks.
 begun_output() {
     repeated $((1 << 20)) '\xF0\x9F\x92\x96' >"$scratch/input"
     repeated $((1 << 20)) '\xED\xA0\xBD\xED\xB2\x96' >"$scratch/wanted"
@@ -193,7 +193,7 @@ folder_as_input() {
     expect_bytes 'a folder as standard input' $? 4 '' "$device_failed"
 }
 
-# Wherever it stands, and however many words there are.
+# At any position, and with any number of arguments.
 argument_not_utf8() {
     local words
     for words in "encode $bad_word" "$bad_word cesu8" "$bad_word" "encode cesu8 $bad_word"; do
@@ -203,7 +203,7 @@ argument_not_utf8() {
     done
 }
 
-# None of these is read from, so their input goes to the output. Empty words stand in the cases.
+# These runs read nothing, so their input goes to the output. Empty arguments are among the cases.
 many_words() {
     local words
     read -r -a words < <(yes encode cesu8 | head -n 500 | tr '\n' ' ')
@@ -225,7 +225,7 @@ full_error() {
     expect_bytes 'standard error to a full device' $? 2 '' ''
 }
 
-# What the program leaves of its input goes to the output.
+# The input that the program does not read goes to the output.
 unread_input() {
     printf 'a\xC8\x85' >"$scratch/input"
     {
@@ -250,21 +250,21 @@ input_in_pieces() {
     expect_bytes 'input in pieces' $? 0 '61 ED A0 81 ED B0 80 C8 85' ''
 }
 
-# Runs on $scratch/input, and compares with $scratch/wanted what comes: `expect_long WHAT COMMAND FLAVOR`.
+# Runs on $scratch/input, and compares the output with $scratch/wanted: `expect_long WHAT COMMAND FLAVOR`.
 expect_long() {
     run "$2" "$3"
     expect_run "$1" 0 '' "$scratch/wanted"
 }
 
-# A text of 20 to 25 bytes again and again, to just above 1 MiB of UTF-8: `long_text WHAT COMMAND FLAVOR
-# INPUT OUTPUT`.
+# Repeats a text of 20 to 25 bytes up to just above 1 MiB of UTF-8: `long_text WHAT COMMAND FLAVOR INPUT
+# OUTPUT`.
 long_text() {
     repeated 52429 "$4" >"$scratch/input"
     repeated 52429 "$5" >"$scratch/wanted"
     expect_long "$1" "$2" "$3"
 }
 
-# The characters U+0061, U+0205, U+20AC, U+10400, U+0000, U+07FF, U+FFFF and U+1F496, again and again.
+# The characters U+0061, U+0205, U+20AC, U+10400, U+0000, U+07FF, U+FFFF and U+1F496, repeated.
 long_texts() {
     local front='a\xC8\x85\xE2\x82\xAC' back='\xDF\xBF\xEF\xBF\xBF' pair='\xED\xA0\x81\xED\xB0\x80'
     local utf8="$front\\xF0\\x90\\x90\\x80\\x00$back\\xF0\\x9F\\x92\\x96"
@@ -278,15 +278,15 @@ long_texts() {
 
 mark='\xEF\xBF\xBD'
 
-# No byte is in a character, so U+FFFD comes for each.
+# No byte is part of a character, so each becomes U+FFFD.
 long_damage() {
     repeated 65536 '\xFF' >"$scratch/input"
     repeated 65536 "$mark" >"$scratch/wanted"
     expect_long '64 KiB of damage' lossy-strict cesu8
 }
 
-# Repeats the first bytes, with the second in place of each 167th: 174763 times, which is just above
-# 1 MiB where they are six: `mostly BYTES BYTES`.
+# Repeats the first bytes 174763 times, with the second ones in place of each 167th: `mostly BYTES BYTES`.
+# For six bytes this is just above 1 MiB.
 mostly() {
     local bytes
     repeat 166 "$1"
@@ -294,7 +294,7 @@ mostly() {
     repeated 81 "$1"
 }
 
-# Of the pairs of U+1F496 some have FF as the first byte, and then U+FFFD comes for all six bytes.
+# Some surrogate pairs of U+1F496 have FF as their first byte, so that all six bytes become U+FFFD.
 long_pairs() {
     local command
     mostly '\xED\xA0\xBD\xED\xB2\x96' '\xFF\xA0\xBD\xED\xB2\x96' >"$scratch/input"
@@ -304,7 +304,7 @@ long_pairs() {
     done
 }
 
-# About the lengths where a read ends, 16,384 bytes, with a character of two bytes across each.
+# Lengths near 16,384 bytes, the size of a read, with a character of two bytes across the end of each read.
 file_lengths() {
     local len
     for len in 1 16383 16384 16385 32767 32768 32769 65536 65537; do
@@ -318,13 +318,13 @@ file_lengths() {
     expect_bytes 'a file that ends within a character' "$status" 1 '' 'cesu8: input is not UTF-8'
 }
 
-# Runs on $scratch/input, which has to come back as it is: `expect_same WHAT COMMAND FLAVOR`.
+# Runs on $scratch/input, which the output must equal: `expect_same WHAT COMMAND FLAVOR`.
 expect_same() {
     run "$2" "$3"
     expect_run "$1" 0 '' "$scratch/input"
 }
 
-# Passes so many pieces of a megabyte on, with a pause after each: `slowly PIECES`.
+# Copies this many pieces of a megabyte, with a pause after each: `slowly PIECES`.
 slowly() {
     local piece
     for ((piece = 0; piece < $1; piece++)); do
@@ -333,7 +333,7 @@ slowly() {
     done
 }
 
-# Both ends wait for the program, and let it wait.
+# Both ends wait for the program, and the program waits for them.
 slow_pipes() {
     repeated 16000000 '\xF0\x9F\x92\x96' >"$scratch/input"
     repeated 16000000 '\xED\xA0\xBD\xED\xB2\x96' >"$scratch/wanted"
@@ -357,15 +357,15 @@ java_strings() {
     expect_bytes 'a text too long for a Java string' "$status" 1 '' 'cesu8: text is too long'
 }
 
-# Runs in parts of whole lines, as the man page shows for a dump that is larger than memory.
+# Runs on parts of whole lines, as the man page shows for a dump that is larger than memory.
 run_in_parts() {
     (cd "$scratch" && program="'$program'" && eval "$in_parts") 2>"$scratch/error"
     status=$?
     mv "$scratch/text" "$scratch/output"
 }
 
-# Lines with characters of six bytes, so that each part ends elsewhere in its last line. Then a line that
-# is longer than a part, and is cut within a pair: nothing of it is written.
+# Lines with characters of six bytes, so that each part ends at another offset of its last line. Then a line
+# that is longer than a part and is cut within a surrogate pair: nothing of it is written.
 large_dump() {
     local in_parts pair='\xED\xA0\xBD\xED\xB2\x96'
     # shellcheck disable=SC2016
@@ -381,7 +381,7 @@ large_dump() {
     expect_run 'a line longer than a part' 1 'cesu8: invalid input' "$scratch/wanted"
 }
 
-# No length as such runs out of memory.
+# No length of input by itself makes the program run out of memory.
 very_long_text() {
     repeated $((4 << 20)) '\xC8\x85\xE2\x82\xAC a\n' >"$scratch/input"
     expect_same '32 MiB of text that stays' encode cesu8

@@ -1,15 +1,15 @@
-// Makes calls of crates/measured for tests/costs.sh, which counts under callgrind what they cost.
+// Makes calls of crates/measured for tests/costs.sh, which counts their cost under callgrind.
 //
-// A row of the table below has a kind of input, its lengths, how many inputs there are, and calls.
-// Each call is made on all inputs of its row in turn, so that no predictor of branches learns one.
-// That is done twice uncounted, so that the predictor keeps nothing of the code that ran before,
-// and then between begin_counting, where callgrind forgets what it has counted, and end_counting,
-// where it writes it. The program prints for each call its name and how many calls were counted.
-// Where a call does not answer as its row says, it tells so, and the status is 1.
+// A row of the table below has a kind of input, its lengths, the number of inputs, and calls. Each call
+// is made on all inputs of its row in turn, so that the branch predictor learns none of them. All are made
+// twice without counting, so that the code that ran before no longer affects the predictor, and then once
+// between begin_counting, at which callgrind resets its counts, and end_counting, at which it writes them.
+// The program prints the name of each call, and how many calls were counted. If a result is not what the
+// row says, it prints that, and the status is 1.
 //
-// The inputs come from a fixed seed, by a generator of this file. Memory and copies come from this
-// file too. callgrind has one predictor for all code, so branches in the C library would change how
-// those of the library are guessed, and it has other code for other processors.
+// The inputs come from a fixed seed, by a generator in this file. Allocation and copying are implemented in
+// this file too: callgrind has one predictor for all code, so branches in the C library would change the
+// predictions for this library, and the C library has different code for different processors.
 
 #include "measured.h"
 
@@ -19,7 +19,7 @@
 
 enum { MOST_CALLS = 8, PAGE = 4096 };
 
-// How often a call on many texts goes through them, so that its one test of them costs little.
+// How often a call on many texts repeats them, so that the one test for UTF-8 costs little in comparison.
 enum { TIMES = 4 };
 
 typedef struct measured_outcome one_call(const uint8_t *, size_t, uint8_t *, size_t);
@@ -37,16 +37,16 @@ struct call {
 #define WRITE(name) {#name "_to_slice", measured_##name##_to_slice, NULL, true}
 #define EACH(name) {#name, NULL, measured_##name##_each, false}
 
-// What a call answers: the input's own bytes, others, or nothing since the input is refused.
+// The expected result: the input's own bytes, other bytes, or none because the input is rejected.
 enum outcome { BORROWED, OTHER, REFUSED };
 
-// How the bytes of a character are written.
+// The form in which a character is written.
 enum form { UTF8, CESU8, MUTF8 };
 
 typedef uint32_t character(void);
 typedef void kind(uint8_t *out, size_t length);
 
-// What stands in for the C library. A copied byte counts as an instruction. Nothing is given back.
+// These functions replace the C library's. A copied byte counts as an instruction. Memory is never freed.
 static uint8_t memory[1 << 28];
 static size_t taken;
 
@@ -94,7 +94,7 @@ void *realloc(void *start, size_t length)
     return memcpy(malloc(length), start, length);
 }
 
-// SplitMix64.
+// The random number generator SplitMix64.
 static uint64_t seed;
 
 static uint64_t next(void)
@@ -198,7 +198,7 @@ static size_t put_short(uint8_t *out, uint32_t number)
     return 3;
 }
 
-// Writes a character, at most six bytes, and returns how many.
+// Writes a character of at most six bytes, and returns their number.
 static size_t put(uint8_t *out, uint32_t number, enum form form)
 {
     if (number == 0 && form == MUTF8) {
@@ -219,7 +219,7 @@ static size_t put(uint8_t *out, uint32_t number, enum form form)
     return 6;
 }
 
-// Fills a place with characters, and with letters where the next one does not fit.
+// Fills a buffer with characters, and with letters if the next character does not fit.
 static void fill(uint8_t *out, size_t length, character *character, enum form form)
 {
     uint8_t bytes[6];
@@ -231,7 +231,7 @@ static void fill(uint8_t *out, size_t length, character *character, enum form fo
     }
 }
 
-// Fills a place with ASCII and so many odd characters of one width, each anywhere.
+// Fills a buffer with ASCII and a number of other characters of one width, at random offsets.
 static void sprinkle(uint8_t *out, size_t length, size_t odd, character *character, enum form form)
 {
     uint8_t bytes[6];
@@ -247,7 +247,7 @@ static void sprinkle(uint8_t *out, size_t length, size_t odd, character *charact
     }
 }
 
-// Puts a byte that is in no encoded character in place of one of the first so many.
+// Replaces one of the first bytes, up to a number, by a byte that is not part of any encoded character.
 static void put_wrong_byte(uint8_t *out, size_t front)
 {
     static const uint8_t bytes[] = {0xC1, 0xF8, 0xFB, 0xFE, 0xFF};
@@ -314,7 +314,8 @@ KIND(damaged_in_50)
             out[at] = (uint8_t)next();
 }
 
-// Whole characters of either encoding and of UTF-8, halves of pairs, cut ones, and wrong bytes.
+// Whole characters of either encoding and of UTF-8, halves of pairs, incomplete characters, and bytes
+// that are never valid.
 KIND(everything)
 {
     for (size_t at = 0; at < length;) {
@@ -341,7 +342,7 @@ static const struct row {
     enum outcome outcome;
     struct call calls[MOST_CALLS];
 } rows[] = {
-    // Short ASCII, and what else is short and borrowed.
+    // Short ASCII, and other short input that is borrowed.
     {"ascii", all_ascii, 4, 32, 256, BORROWED,
      {ONE(decode_strict), ONE(mutf8_decode_strict), ONE(decode), ONE(decode_lossy)}},
     {"ascii", all_ascii, 24, 24, 256, OTHER,
@@ -350,7 +351,7 @@ static const struct row {
     {"one-of-two-bytes", all_of_two, 2, 2, 256, BORROWED, {ONE(decode_strict)}},
     {"one-of-three-bytes", all_of_three, 3, 3, 256, BORROWED, {ONE(decode_strict)}},
 
-    // Long and borrowed.
+    // Long input that is borrowed.
     {"ascii", all_ascii, 1900, 1900, 64, BORROWED, {ONE(decode_strict), ONE(decode)}},
     {"up-to-three-bytes", all_up_to_three, 1900, 1900, 64, BORROWED,
      {ONE(decode_strict), ONE(decode)}},
@@ -361,13 +362,13 @@ static const struct row {
     {"quote-near-end", quote_near_end, 1900, 1900, 256, BORROWED, {ONE(decode_strict)}},
     {"quote-anywhere", quote_anywhere, 1900, 1900, 256, BORROWED, {ONE(decode_strict)}},
 
-    // The front: all bytes, or those before an emoji.
+    // The valid prefix: all bytes, or those before an emoji.
     {"latin", all_latin, 24, 24, 256, BORROWED, {ONE(decode_strict), ONE(decode)}},
     {"latin", all_latin, 200, 200, 256, BORROWED, {ONE(decode_strict), ONE(decode)}},
     {"latin", all_latin, 1024, 1024, 64, BORROWED, {ONE(decode_strict), ONE(decode)}},
     {"one-pair", one_pair, 200, 200, 256, OTHER, {ONE(decode_strict), WRITE(decode_strict)}},
 
-    // Built.
+    // Results that are built.
     {"one-pair", one_pair, 24, 24, 256, OTHER, {ONE(decode_strict), ONE(decode)}},
     {"one-c0-80", one_c0_80, 40, 40, 256, OTHER, {ONE(mutf8_decode_strict)}},
     {"any-width", any_in_cesu8, 24, 24, 256, OTHER, {WRITE(decode)}},
@@ -379,7 +380,7 @@ static const struct row {
     {"any-or-null", any_in_mutf8, 200, 200, 256, OTHER, {ONE(mutf8_decode)}},
     {"any-or-null", any_in_mutf8, 16380, 16380, 16, OTHER, {ONE(mutf8_decode_strict)}},
 
-    // Damaged.
+    // Damaged input.
     {"damaged-in-50", damaged_in_50, 1024, 1024, 64, OTHER,
      {ONE(decode_lossy), ONE(mutf8_decode_lossy_strict), WRITE(decode_lossy)}},
     {"one-wrong-byte", one_wrong_byte, 64, 64, 256, OTHER, {ONE(decode_lossy_strict)}},
@@ -389,7 +390,7 @@ static const struct row {
     {"ascii", all_ascii, 1000, 1000, 64, OTHER,
      {ONE(contains_utf8_4_byte_char_header), ONE(contains_null_or_utf8_4_byte_char_header)}},
 
-    // Refused.
+    // Rejected input.
     {"stray-first", stray_first, 20, 63, 256, REFUSED, {ONE(decode_strict)}},
     {"one-wrong-byte", one_wrong_byte, 20, 20, 256, REFUSED, {ONE(decode_strict), ONE(decode)}},
     {"one-wrong-byte", one_wrong_byte, 64, 64, 256, REFUSED,
@@ -399,7 +400,7 @@ static const struct row {
      {ONE(decode_strict), ONE(decode)}},
     {"any-width-utf8", any_in_utf8, 200, 200, 256, REFUSED, {ONE(decode_strict)}},
 
-    // Refused for a byte in the first 64: how far is read behind it?
+    // Rejected for a byte in the first 64: the cost of what is read after it.
     {"wrong-in-front", wrong_in_front, 200, 200, 256, REFUSED,
      {ONE(decode_strict), ONE(decode), WRITE(decode_strict), WRITE(decode)}},
     {"wrong-in-front", wrong_in_front, 1900, 1900, 256, REFUSED,
@@ -407,10 +408,10 @@ static const struct row {
     {"wrong-in-front", wrong_in_front, 262144, 262144, 8, REFUSED,
      {ONE(decode_strict), ONE(decode), WRITE(decode_strict), WRITE(decode)}},
 
-    // Refused since the last character is cut off: how much is read before it?
+    // Rejected because the last character is incomplete: the cost of what is read before it.
     {"cut-off", cut_off, 1024, 1024, 64, REFUSED, {ONE(decode_strict), WRITE(decode_strict)}},
 
-    // Texts that stay, and texts that change.
+    // Texts that are unchanged by encoding, and texts that are not.
     {"up-to-three-bytes", all_up_to_three, 200, 200, 256, OTHER,
      {EACH(encode), EACH(encoded_len)}},
     {"one-emoji", one_emoji, 8, 8, 256, OTHER, {WRITE(encode)}},
@@ -424,7 +425,7 @@ static const struct row {
     {"80-nulls", nulls_80, 4000, 4000, 64, OTHER, {EACH(mutf8_encode)}},
     {"null-in-30", nulls_in_30, 16384, 16384, 16, OTHER, {EACH(mutf8_encode)}},
 
-    // How many bytes at the front are whole: all, or those in front of a wrong one.
+    // The longest valid prefix: all bytes, or those before a damaged one.
     {"any-width", any_in_cesu8, 24, 24, 256, OTHER, {ONE(valid_up_to)}},
     {"any-width", any_in_cesu8, 16380, 16380, 16, OTHER, {ONE(valid_up_to)}},
     {"three-bytes", all_of_three, 16380, 16380, 16, OTHER, {ONE(mutf8_valid_up_to)}},
@@ -432,8 +433,7 @@ static const struct row {
     {.name = NULL},
 };
 
-// The inputs of a row, which stand one behind the other, a buffer for the longest answer, and what
-// is answered.
+// The inputs of a row, one after another, a buffer for the longest result, and the results.
 struct inputs {
     struct input {
         uint8_t *bytes;
@@ -462,7 +462,7 @@ static struct inputs inputs_of(const struct row *row)
     return inputs;
 }
 
-// Where callgrind begins to count, and where it ends: no compiler may take these away.
+// callgrind begins and ends counting at these functions, so the compiler must not remove them.
 __attribute__((noinline)) void begin_counting(void)
 {
     __asm__ volatile("" ::: "memory");
@@ -473,8 +473,8 @@ __attribute__((noinline)) void end_counting(void)
     __asm__ volatile("" ::: "memory");
 }
 
-// Makes a call on all inputs, and returns how many answers there are. Between two calls is only the
-// branch of the loop, so that the library's are guessed alike whatever compiler builds this.
+// Makes a call on all inputs, and returns the number of results. Between two calls there is only the
+// branch of the loop, so that the predictions for the library do not depend on the compiler of this file.
 static size_t make(const struct call *call, struct inputs inputs)
 {
     size_t room = call->writes ? inputs.room : 0;
@@ -488,7 +488,7 @@ static size_t make(const struct call *call, struct inputs inputs)
     return inputs.count;
 }
 
-// Counts a call, and returns how many answers are not what they have to be.
+// Counts a call, and returns how many results are wrong.
 static size_t count(const struct call *call, struct inputs inputs, enum outcome outcome)
 {
     size_t wrong = 0;

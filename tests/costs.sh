@@ -1,32 +1,32 @@
 #!/usr/bin/env bash
 # Counts what calls and workloads cost, and compares that with bench/costs.txt:
-#   tests/costs.sh            looks at each cost
-#   tests/costs.sh --show     prints them too, and beside each what memory and copies took
-#   tests/costs.sh --write    writes bench/costs.txt anew
+#   tests/costs.sh            tests each cost
+#   tests/costs.sh --show     also prints them, each with the cost of allocations and copies
+#   tests/costs.sh --write    updates bench/costs.txt
 #
-# A cost is a number of instructions, and 15 for each branch that is mispredicted. callgrind
-# simulates both, so they are the same in each run, whatever else the machine does. It fails where a
-# cost is more than a fiftieth above its line, and says by how much. It also fails where one is more
-# than a fiftieth below, which wants a new line, and where a line is missing or too much. How long
-# an instruction takes is not seen: bench/run and bench/run.sh tell that.
+# A cost is the number of instructions, plus 15 for each mispredicted branch. callgrind simulates both,
+# so they are the same in each run, whatever else the machine does. The script fails if a cost is more
+# than a fiftieth above its line, and says by how much. It also fails if one is more than a fiftieth
+# below its line, which then needs an update, and if a line is missing or superfluous. It does not see
+# how long an instruction takes: bench/run and bench/run.sh measure times.
 #
-# callgrind predicts a branch by the last bits of its address and by the branches before it. So where
-# a function begins decides which branches share a counter, and that depends on all functions before
-# it: the same functions in another order had half of the costs changed, one by 15 of 452. Therefore
-# each function begins at a multiple of 512 bytes here, and the order of functions changes no cost.
-# Neither do the folder and the environment: a program gets none, and before a call is counted it is
-# made so often that the predictor keeps nothing of the code that started the program.
+# callgrind predicts a branch by the last bits of its address and by the branches before it. So the
+# address of a function determines which branches share a counter, and it depends on all functions
+# before it: with the same functions in another order, half of the costs were different, one by 15 of
+# 452. Therefore functions are aligned to 512 bytes here, and their order changes no cost. Neither do
+# the folder and the environment: the program gets an empty environment, and before a call is counted,
+# it is made so often that the code that started the program no longer affects the predictor.
 #
-# tests/costs.c makes the single calls, each on many different inputs. Only what the library does is
-# judged; requests for memory and copies are counted apart. Of each workload in bench/workloads.txt
-# the rounds count, with what the program does in them: a run without rounds, which only makes the
-# inputs, is taken off. There the C library is what is counted apart.
+# tests/costs.c makes the single calls, each on many different inputs. Only the library's own cost is
+# compared; allocations and copies are counted separately. Of each workload in bench/workloads.txt the
+# rounds are counted, with the program's own work in them: the cost of a run without rounds, which only
+# makes the inputs, is subtracted. For workloads the C library is counted separately.
 #
-# Both are built for x86-64-v2 and x86-64-v3, and those for x86-64-v2 are left. In a clean clone it
-# proves the libraries first. After that it takes some two minutes of one processor. Without
-# valgrind or a C compiler it says that it skipped all, and on a processor without AVX2 that it
-# skipped x86-64-v3. The status is 0 if nothing is wrong. It needs the kit's `rt`, valgrind, `cc`,
-# objcopy, bash, awk and the core utilities.
+# Both are built for x86-64-v2 and x86-64-v3; the builds for x86-64-v2 remain in out/. In a clean clone
+# the script first proves the libraries. After that it takes some two minutes of one processor. Without
+# valgrind or a C compiler it skips everything, and on a processor without AVX2 it skips x86-64-v3; it
+# says so. The status is 0 if nothing is wrong. It needs the kit's `rt`, valgrind, `cc`, objcopy, bash,
+# awk and the core utilities.
 # shellcheck source=tests/lib.sh
 source "$(dirname "${BASH_SOURCE[0]}")/lib.sh" || exit 2
 # shellcheck source=tests/kit.sh
@@ -37,7 +37,7 @@ lines=$top/bench/costs.txt
 levels=(x86-64-v2 x86-64-v3)
 rounds=4
 
-# Builds a crate for a level by `rt`, and copies a file that it leaves:
+# Builds a crate for a level by `rt`, and copies one of the files that this makes:
 # `build_crate LEVEL CRATE FILE COMMAND WORD..`.
 build_crate() {
     local level=$1 crate=$2 file=$3 command=$4
@@ -51,8 +51,8 @@ build_crate() {
     fi
 }
 
-# Builds all for a level, each function at a multiple of 512 bytes. Calls within the shared object go
-# straight, and not by the linker's table.
+# Builds everything for a level, with functions aligned to 512 bytes. Calls within the shared object are
+# direct, without the procedure linkage table.
 build_level() {
     local at=$scratch/$1 file
     mkdir "$at" || exit 2
@@ -67,16 +67,16 @@ build_level() {
     quietly cc -o "$at/workloads" "$at/workloads.o" "$at/libos_c.a" "$at/liblibc_c.a" || exit 2
 }
 
-# Builds the program of the single calls. It takes the shared object of the folder that it runs in.
+# Builds the program of the single calls. It loads the shared object from the folder in which it runs.
 build_calls() {
     (cd "$scratch/${levels[0]}" && quietly cc -std=c11 -O2 -Wall -Wextra -Werror \
         -I "$top/bench" -o "$scratch/costs" "$top/tests/costs.c" ./measured.so) || exit 2
 }
 
 # Runs a program under callgrind in the folder of a level: `simulate LEVEL FLAGS PROGRAM WORD..`.
-# What callgrind counts is in $scratch/counts then, and what the program prints in $scratch/printed.
-# The program gets no environment, not even valgrind's, which has the folder's name: its length moves
-# the stack, and by that copies in the C library take other ways.
+# Afterwards $scratch/counts has what callgrind counted, and $scratch/printed what the program printed.
+# The program gets no environment, not even valgrind's, which has the folder's name: its length would
+# move the stack, and with it the alignment on which copies in the C library depend.
 simulate() {
     local level=$1 flags
     read -r -a flags <<<"$2"
@@ -87,7 +87,7 @@ simulate() {
     ) >"$scratch/printed" </dev/null
 }
 
-# The single calls at a level, each with its cost and what was counted apart.
+# Prints the single calls at a level, each with its cost and what was counted separately.
 cost_of_calls() {
     simulate "$1" '--zero-before=begin_counting --dump-before=end_counting' ../costs || return
     # Behind the last call is the end of the program.
@@ -96,13 +96,13 @@ cost_of_calls() {
         awk -v level="$1" '{ printf "%s %s %.1f %.1f\n", $1, level, $3 / $2, $4 / $2 }'
 }
 
-# The two sums of a run of a workload: `sums_of LEVEL NAME ROUNDS`.
+# Prints the two sums of a run of a workload: `sums_of LEVEL NAME ROUNDS`.
 sums_of() {
     simulate "$1" '' ./workloads "$2" 1 "$3" &&
         awk -v library=workloads -v driver=none -f "$top/tests/costs.awk" "$scratch/counts"
 }
 
-# The workloads at a level, each with its cost and what was counted apart.
+# Prints the workloads at a level, each with its cost and what was counted separately.
 cost_of_workloads() {
     local name word
     while read -r name _ word _; do
@@ -114,7 +114,7 @@ cost_of_workloads() {
     done <"$top/bench/workloads.txt"
 }
 
-# What bench/costs.txt has to hold.
+# Prints the new content of bench/costs.txt.
 written() {
     cat <<WORDS
 # What calls and workloads cost, as tests/costs.sh counts it: a name, a processor level and a cost.
@@ -164,7 +164,7 @@ if ! grep -qw avx2 /proc/cpuinfo; then
     [[ ${1-} != --write ]] || { echo 'bench/costs.txt has both levels: not written' >&2; exit 2; }
 fi
 
-# What is built last is left.
+# x86-64-v2 is built last, so that its builds remain.
 for ((i = ${#levels[@]} - 1; i >= 0; i--)); do build_level "${levels[i]}"; done
 build_calls
 for level in "${levels[@]}"; do

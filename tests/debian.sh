@@ -1,12 +1,12 @@
-# Gets Debian's packages of any architecture, for the scripts that unpack them in a folder. A script
-# sources this file. The packages come from where this machine's apt has Debian's from, so this needs
-# a network. It needs apt-get, dpkg and the core utilities.
+# Downloads Debian's packages of any architecture, for the scripts that unpack them in a folder. They
+# source this file. The packages come from the mirrors of this machine's apt, so this needs a network. It
+# needs apt-get, dpkg and the core utilities.
 # shellcheck shell=bash
 debian=$(mktemp -d)
 trap 'rm -rf "$debian"' EXIT
 
-# Runs a command of apt for an architecture: `apt_for ARCHITECTURE COMMAND ARGUMENT..`. apt has
-# folders of its own, in which nothing is installed, and knows no other architecture.
+# Runs a command of apt for an architecture: `apt_for ARCHITECTURE COMMAND ARGUMENT..`. apt uses separate
+# folders, in which nothing is installed, and knows no other architecture.
 apt_for() {
     local architecture=$1 command=$2 own=$debian/$1
     shift 2
@@ -19,7 +19,7 @@ apt_for() {
         : >"$own/status"
         cp /etc/apt/sources.list.d/debian*.sources "$own/sources" 2>/dev/null || :
         [[ ! -s /etc/apt/sources.list ]] || cp /etc/apt/sources.list "$own/sources/sources.list"
-        # If a list can't be had, the packages of the others still can.
+        # If one list cannot be downloaded, the packages of the others are still available.
         apt-get "${options[@]}" update >&2 || :
     fi
     "$command" "${options[@]}" "$@"

@@ -1,11 +1,11 @@
-// Prints a digest of what each call of the library for C answers on more than a million inputs, in one
-// line. tests/aarch64.sh compares what it prints on aarch64 with what it prints on x86-64.
+// Prints a line with a digest of the results of each call of the library for C on more than a million
+// inputs. tests/aarch64.sh compares the line on aarch64 with that on x86-64.
 //
-// An input has a length from 0 to 300. It is made of one of the texts below, which ends with a whole
-// character, and has at each place three of the faults, in turn. It stands at odd addresses too, and so
-// does the buffer, which is large enough for two inputs of three and has half of that for the third.
-// Each input is for a quarter of the calls, in turn, since an emulator takes a minute for these. So each
-// call has an input of each length with a fault at each place.
+// An input has a length from 0 to 300. It consists of one of the texts below, and ends with a whole
+// character. At each offset it has three of the faults, in turn. The input is also placed at odd
+// addresses, and so is the buffer, which is large enough for two of three inputs and has half of that for
+// the third. Each input is passed to a quarter of the calls, in turn, since even these take an emulator a
+// minute. So each call gets an input of each length with a fault at each offset.
 
 #include "cesu8.h"
 
@@ -23,7 +23,7 @@ struct piece {
 
 #define PIECE(literal) {literal, sizeof literal - 1}
 
-// UTF-8, CESU-8, MUTF-8 and what has more than one of them, by what is repeated.
+// UTF-8, CESU-8, MUTF-8 and mixtures, each by the piece that is repeated.
 static const struct piece texts[] = {
     PIECE("a"),
     PIECE("\xC3\xA9"),
@@ -61,7 +61,7 @@ static void add_bytes(const uint8_t *bytes, size_t length)
     add(word);
 }
 
-// What a call has told, and written into a buffer if it has.
+// Adds the result of a call to the digest, and the buffer if the call has one.
 static void note(uint32_t status, size_t length, size_t taken, const uint8_t *buffer)
 {
     answers++;
@@ -72,7 +72,7 @@ static void note(uint32_t status, size_t length, size_t taken, const uint8_t *bu
         add_bytes(buffer, length);
 }
 
-// What a call has told that converts a piece, and written.
+// Adds the result of a call that converts a piece to the digest, and the buffer.
 static void note_progress(struct cesu8_progress progress, const uint8_t *buffer)
 {
     note(progress.status, progress.written, progress.read, NULL);
@@ -109,8 +109,8 @@ static lossy_streams *const streaming_lossily[] = {
     cesu8_stream_decode_lossy_strict, cesu8_mutf8_stream_decode_lossy_strict,
 };
 
-// Makes the calls whose turn it is. Two bytes stand before the input, which count its bytes for the
-// calls of Java.
+// Makes the calls whose turn it is. The two bytes before the input count its bytes, for the calls that
+// read Java strings.
 static void call_in_turn(const uint8_t *input, size_t length, uint8_t *buffer)
 {
     size_t room = 3 * length + 2, half = length / 2, due = inputs++ % TURNS;
@@ -140,7 +140,7 @@ static void call_in_turn(const uint8_t *input, size_t length, uint8_t *buffer)
     }
 }
 
-// The calls on a text of this length, with faults at each place, the last of which is behind the text.
+// Makes the calls on a text of this length, with faults at each offset, the last of them after the text.
 static void look_at(size_t length, struct piece text, size_t turn)
 {
     static _Alignas(64) uint8_t input_room[ROOM], buffer_room[ROOM];
@@ -154,7 +154,7 @@ static void look_at(size_t length, struct piece text, size_t turn)
         for (size_t i = 0; i < FAULTS_AT_A_PLACE; i++) {
             struct piece fault = faults[(turn + place + 4 * i) % LENGTH(faults)];
             size_t rest = length - place;
-            // Sometimes the bytes before the input count one more or less.
+            // Sometimes the count before the input is one more or less.
             size_t count = length + (turn + place) % 7 / 6 - (turn + place) % 11 / 10;
             input[-2] = (uint8_t)(count >> 8), input[-1] = (uint8_t)count;
             memcpy(input, whole, length);

@@ -2,20 +2,20 @@
 # Builds the release by dist.sh, unpacks it in an empty folder, and uses it there without the kit on
 # the PATH:
 # - tests/exports.c calls each export of the archive, at both levels, and of the shared object;
-# - keys.c is built by pkg-config and by CMake, with the archive and with the shared object, where the
-#   release is unpacked, and where install.sh put it in lib, lib64 and lib/x86_64-linux-gnu and below
-#   DESTDIR;
+# - keys.c is built with pkg-config and with CMake, with the archive and with the shared object, from the
+#   unpacked release, and after install.sh installed it with the library in lib, lib64 and
+#   lib/x86_64-linux-gnu, and below DESTDIR;
 # - the other examples, cesu8_damage, what the pages show, a file of C++ and a call from Python are run.
 #
-# Of the release for aarch64 it looks at the pages here; tests/aarch64.sh uses it.
+# For aarch64 it only tests the pages of the release; tests/aarch64.sh tests the rest.
 #
-# It also checks that two builds, in folders of different names, give the same bytes of every file;
-# that the sums are right; which files there are, and that the pages name no other; what the archive
-# and the shared object show, how they are aligned and how this is marked; that a program has of the archive
-# only what it calls; what install.sh refuses and prints, and that uninstall.sh leaves nothing of it; that the
-# man pages and the completion know the commands and the calls; and that no file names a folder of this
-# machine. It builds from a commit of a copy of the tree, over what is proved here. In a clean clone that
-# takes minutes.
+# It also tests that two builds, in folders with different names, produce the same bytes of every file;
+# the hashes; which files there are, and that the pages name no others; what the archive and the shared
+# object export, how they are aligned and for which processors they are marked; that a program contains only
+# those parts of the archive that it calls; what install.sh rejects and prints, and that uninstall.sh leaves
+# nothing; that the man pages and the completion have the commands and the calls; and that no file contains
+# a path of this machine. It builds a commit of a copy of the tree, with what is proved here. In a clean
+# clone that takes minutes.
 #
 # If pkg-config, CMake, c++, rustc, python3, man or java is missing, it says what it skipped. If a tool that
 # dist.sh needs is missing, it skips everything. The status is 0 if nothing is wrong. It needs the
@@ -46,7 +46,7 @@ source "$top/tests/shown.sh" || exit 2
 # shellcheck source=tests/run_examples.sh
 source "$top/tests/run_examples.sh" || exit 2
 
-# The tree with what is proved here, as a repository with one commit: `copy_tree FOLDER`.
+# Copies the tree, with what is proved here, to a repository with one commit: `copy_tree FOLDER`.
 copy_tree() {
     local library
     if [[ ! -f $crate/out/libcesu8_c.a ]]; then
@@ -74,7 +74,7 @@ name_differences() {
     diff <(tar tvzf "$scratch/first/$name.tar.gz") <(tar tvzf "$scratch/second/$name.tar.gz")
 }
 
-# Builds twice, in folders of two names. The program is the same.
+# Builds twice, in folders with different names. The program is built once.
 build_twice() {
     build
     export PROVED_PROGRAM=$program
@@ -93,7 +93,7 @@ build_twice() {
         wrong 'SHA256SUMS has other files than there are'
 }
 
-# What dist.sh says of how it is called.
+# Tests the usage that dist.sh prints.
 look_at_usage() {
     local word
     [[ $(bash "$scratch/a_tree_of_another_name/release/dist.sh" --help) == 'usage: dist.sh FOLDER' ]] ||
@@ -104,7 +104,7 @@ look_at_usage() {
     done
 }
 
-# The path without the folders in which the kit is.
+# The PATH without the folders of the kit.
 path_without_kit() {
     local folder path=''
     while read -r -d : folder; do
@@ -124,7 +124,7 @@ look_at_files() {
         lib/libcesu8.a lib/libcesu8.so "$shared" lib/pkgconfig/cesu8.pc
         share/bash-completion/completions/cesu8_cli share/bash-completion/completions/cesu8conv
         share/man/man1/cesu8_cli.1 share/man/man1/cesu8conv.1 share/man/man3/cesu8.3 uninstall.sh)
-    # The pages of single calls are looked at with the calls.
+    # The pages of single calls are tested with the calls.
     (cd "$unpacked" && find . ! -type d ! -name 'cesu8_*.3' -printf '%P\n' | sort) >"$scratch/files"
     diff <(printf '%s\n' "${wanted[@]}") "$scratch/files" || wrong 'the release has other files'
     [[ $(readlink "$unpacked/lib/libcesu8.so") == "libcesu8.so.$major" ]] ||
@@ -162,7 +162,7 @@ look_at_pages() {
     ' "$unpacked"/*.md && wrong 'nothing stands before these headings'
 }
 
-# The same for the release for aarch64, if there is one.
+# Tests the pages of the release for aarch64, if there is one.
 look_at_cross_pages() {
     local cross=cesu8-$version-aarch64-linux unpacked=$scratch/empty/cesu8-$version-aarch64-linux
     if [[ ! -f $scratch/first/$cross.tar.gz ]]; then
@@ -174,8 +174,8 @@ look_at_cross_pages() {
     look_at_pages
 }
 
-# What the archive shows and what it asks for: the names of its calls, and functions that copy and
-# compare bytes. The chooser asks the compiler's runtime what the processor has.
+# Tests the symbols of the archive: it defines its calls, and needs only functions that copy and compare
+# bytes, and for the chooser the function of the compiler's runtime that returns the processor's level.
 look_at_archive() {
     local archive=$unpacked/lib/libcesu8.a asked
     diff <({ exports | sed 's/.*/&\n&_v2\n&_v3/'; plain_calls; } | sed 's/^/T cesu8_/' | sort) \
@@ -188,7 +188,7 @@ look_at_archive() {
     readelf -SW "$archive" 2>/dev/null | are_aligned || wrong 'these parts of the archive are aligned otherwise'
 }
 
-# Calls each export at x86-64-v2 too: a processor with x86-64-v3 would never run that code.
+# Calls each export of the code for x86-64-v2 too, which a processor with x86-64-v3 would never run.
 call_lower_level() {
     local objects=$scratch/objects
     mkdir "$objects" && (cd "$objects" && ar x "$unpacked/lib/libcesu8.a" && rm chooser.o) || exit 2
@@ -215,8 +215,8 @@ look_at_shared() {
     done
 }
 
-# A program that makes one call has nothing of another call, where it is linked with --gc-sections, and is
-# a tenth as long as the archive.
+# Tests that a program with one call, linked with --gc-sections, contains no other call, and is at most a
+# tenth as large as the archive.
 look_at_sections() {
     local program=$scratch/one_call
     printf '%s\n' '#include <cesu8.h>' 'int main(void) {' \
@@ -231,8 +231,8 @@ look_at_sections() {
         wrong 'a program with one call is long'
 }
 
-# That the loader reads the mark: a copy that is marked as code for what no processor has is refused
-# with a sentence, and with no signal.
+# Tests that the loader reads the mark: it rejects a copy that is marked for a level that no processor has,
+# with an error message and without a signal.
 look_at_mark() {
     local copy=$scratch/marked/libcesu8.so.$major place status=0
     if ! printf 'glibc 2.33\n%s\n' "$(getconf GNU_LIBC_VERSION)" | sort -CV; then
@@ -242,8 +242,8 @@ look_at_mark() {
     place=$(readelf -SW "$unpacked/$shared" |
         sed -n 's/.* \.note\.gnu\.property *NOTE *[0-9a-f]* *\([0-9a-f]*\) .*/\1/p')
     mkdir "$scratch/marked" && cp "$unpacked/$shared" "$copy" || exit 2
-    # In the section are the head of a note, of 16 bytes, the type and length of what is needed, of 8,
-    # and its 32 bits, of which this sets the highest.
+    # The section has the header of a note, of 16 bytes, the type and length of the property, of 8, and its
+    # 32 bits, of which this sets the highest.
     printf '\200' | dd of="$copy" bs=1 seek=$((0x$place + 27)) conv=notrunc 2>"$scratch/said"
     quietly cc -o "$scratch/example" -I "$unpacked/include" "$unpacked/examples/keys.c" \
         "$unpacked/$shared" || wrong 'keys.c does not build'

@@ -1,13 +1,13 @@
-// Calls each export of crates/cesu8_c as C does. What comes back it compares with the
-// encodings as the standards give them (UTF-8 by the Unicode Standard, CESU-8 by Unicode Technical
-// Report 26, MUTF-8 by Java's DataInput). The input and the buffer stand once before and once behind
-// a page that no call may touch. A buffer has each length from 0 to one more than is needed, and for
-// the longest results the first and the last hundred of these. No result may be longer than the
-// header's macro for it says, and for each macro one is as long. It prints each call that is wrong,
-// and ends with the counts. The status is 0 where none is wrong.
+// Calls each export of crates/cesu8_c from C, and compares the results with the encodings as the
+// standards define them (UTF-8 by the Unicode Standard, CESU-8 by Unicode Technical Report 26, MUTF-8 by
+// Java's DataInput). The input and the buffer are placed directly before and directly after a page that no
+// call may access. The buffer has each length from 0 to one more than is needed; for the longest results,
+// the first and the last hundred of these. No result may be longer than the header's macro for it, and for
+// each macro one result is exactly as long. The program prints each call that is wrong, and the counts at
+// the end. The status is 0 if none is wrong.
 //
-// With -DARCHIVE it is for the archive of archive.sh and for the shared object: an input and a buffer
-// of length 0 are null pointers too, and the calls that are plain C are called.
+// With -DARCHIVE it tests the archive of archive.sh and the shared object: inputs and buffers of length 0
+// are null pointers too, and it also makes the calls that are written in plain C.
 
 #define _DEFAULT_SOURCE
 
@@ -20,8 +20,8 @@
 #include <sys/mman.h>
 #include <unistd.h>
 
-// The members have the types that the exports have: u32, usize, i32 and bool. A call leaves the bytes
-// beside a bool as they are, so an int there could be read with them.
+// The members have the types of the exports: u32, usize, i32 and bool. A call does not write the padding
+// after a bool, so an int in its place would be read with wrong bytes.
 #define HAS(record, member, type)                                                                  \
     _Static_assert(_Generic(((struct record *)NULL)->member, type: 1, default: 0),                 \
                    #record " has a " #member " of another type than " #type)
@@ -38,7 +38,7 @@ HAS(cesu8_progress, status, enum cesu8_status);
 HAS(cesu8_progress, read, size_t);
 HAS(cesu8_progress, written, size_t);
 
-// With these sizes and members, the records are passed as both calling conventions have them.
+// With these sizes and members, both calling conventions pass the structs in the same way.
 _Static_assert(sizeof(enum cesu8_status) == 4, "enum cesu8_status");
 _Static_assert(sizeof(struct cesu8_answer) == 16, "struct cesu8_answer");
 _Static_assert(sizeof(struct cesu8_comparison) == 8, "struct cesu8_comparison");
@@ -53,7 +53,7 @@ _Static_assert(CESU8_MAX_DECODED_LOSSY(INT_MAX - 1 + 1) == 3 * (size_t)INT_MAX,
                "CESU8_MAX_DECODED_LOSSY");
 _Static_assert(CESU8_MAX_JAVA_WRITTEN(INT_MAX - 1 + 1) == 2 + 2 * (size_t)INT_MAX,
                "CESU8_MAX_JAVA_WRITTEN");
-// Each macro is one operand of what stands around it.
+// Each macro is a single operand, whatever the expression around it.
 _Static_assert(600 / CESU8_MAX_ENCODED(3) == 100, "CESU8_MAX_ENCODED");
 _Static_assert(600 / CESU8_MAX_DECODED(3) == 200, "CESU8_MAX_DECODED");
 _Static_assert(900 / CESU8_MAX_DECODED_LOSSY(3) == 100, "CESU8_MAX_DECODED_LOSSY");
@@ -61,8 +61,8 @@ _Static_assert(5 * CESU8_MAX_JAVA_WRITTEN(3) == 40, "CESU8_MAX_JAVA_WRITTEN");
 _Static_assert(655350 / CESU8_MAX_JAVA_READ == 10, "CESU8_MAX_JAVA_READ");
 _Static_assert(1966050 / CESU8_MAX_JAVA_READ_LOSSY == 10, "CESU8_MAX_JAVA_READ_LOSSY");
 
-// What a call tells, in one form for all. What is decided is a length here, 1 for yes, and so is an
-// order, 0 for less, 1 for equal and 2 for greater.
+// The result of a call, in one form for all. A decision is a length here, 1 for yes, and so is an order: 0
+// for less, 1 for equal and 2 for greater.
 struct told {
     enum cesu8_status status;
     size_t length, taken;
@@ -97,7 +97,7 @@ typedef struct told call(const uint8_t *input, size_t length, uint8_t *buffer, s
         return (struct told){reading.status, reading.length, reading.taken};                       \
     }
 
-// The input is two texts with a byte FE between them, which is in no text.
+// The input is two texts, separated by a byte FE, which no text contains.
 #define COMPARES(name)                                                                             \
     static struct told name(const uint8_t *input, size_t n, uint8_t *buffer, size_t m)             \
     {                                                                                              \
@@ -146,9 +146,9 @@ struct row {
     const char *name;
     call *call;
     struct bytes input;
-    enum cesu8_status status; // In a buffer of the length that is needed,
-    struct bytes answer;      // which is this one's. It has no start where nothing is written.
-    size_t taken;             // Whatever the buffer.
+    enum cesu8_status status; // With a buffer of the needed length.
+    struct bytes answer;      // The result, whose length is needed. Its start is null if nothing is written.
+    size_t taken;             // With any buffer.
 };
 
 #define CALL(name) #name, name
@@ -174,8 +174,8 @@ struct row {
 #define U_FFFF "\xEF\xBF\xBF"                   // U+FFFF, which is above each surrogate
 #define BETWEEN "\xFE"                           // What is between two texts to compare
 
-// As many as two bytes can count, and one more; and the form of the former. As many that are damaged,
-// after their count, which is damaged bytes too; and their reading.
+// As many bytes as two bytes can count, and one more; and the form of the former. As many damaged bytes,
+// after their count, which consists of damaged bytes too; and their lossy reading.
 static char long_text[65536];
 static char long_form[65537];
 static char damaged_form[65537];
@@ -185,8 +185,8 @@ static char damaged_text[3 * 65535];
 #define TIMES_20(part) TIMES_5(part) TIMES_5(part) TIMES_5(part) TIMES_5(part)
 #define TIMES_100(part) TIMES_20(part) TIMES_20(part) TIMES_20(part) TIMES_20(part) TIMES_20(part)
 
-// For each call an input that is its own answer, one whose answer is another, one that is refused or
-// damaged, the empty one, and long ones.
+// For each call an input that equals its result, one that does not, one that is rejected or damaged, the
+// empty one, and long ones.
 static const struct row rows[] = {
     {CALL(needs_encoded), BYTES(ALIKE ZERO), OK, LENGTH(0), 0},
     {CALL(needs_encoded), BYTES(ALIKE FOUR_BYTES), OK, LENGTH(1), 0},
@@ -307,7 +307,7 @@ static const struct row rows[] = {
     {CALL(java_read_lossy), {damaged_form, 65537}, OK, {damaged_text, 3 * 65535}, 65537},
     {CALL(java_read_lossy), BYTES("\0\x03" C0_80), TRUNCATED, NOTHING, 0},
     {CALL(java_read_lossy), BYTES("\0\0\0\0"), OK, BYTES(""), 2},
-    // Long enough for the ways that are taken from 33, 65, 129, 257 and 1,025 bytes on.
+    // Long enough for the strategies that begin at 33, 65, 129, 257 and 1,025 bytes.
     {CALL(needs_encoded), BYTES(TIMES_100(ALIKE ZERO) FOUR_BYTES), OK, LENGTH(1), 0},
     {CALL(mutf8_needs_encoded), BYTES(TIMES_100(ALIKE) ZERO), OK, LENGTH(1), 0},
     {CALL(encoded_len), BYTES(TIMES_100(ALIKE FOUR_BYTES)), OK, LENGTH(1200), 0},
@@ -372,7 +372,7 @@ static const struct row rows[] = {
     {CALL(java_read), BYTES("\x05\x78" TIMES_100(ALIKE C0_80 SURROGATES) "\0"), OK,
      BYTES(TIMES_100(ALIKE ZERO FOUR_BYTES)), 1402},
     {CALL(java_read), BYTES("\x03\x21" TIMES_100(ALIKE C0_80) ZERO), INVALID, NOTHING, 803},
-    // Up to 64 bytes with more behind them, of which one vector shows whether they are ASCII.
+    // Up to 64 bytes with more after them, for which one vector shows whether they are ASCII.
     {CALL(java_read), BYTES("\0\0" TIMES_20(ALIKE)), OK, BYTES(""), 2},
     {CALL(java_read), BYTES("\0\x05" "abcde" TIMES_20(ALIKE)), OK, BYTES("abcde"), 7},
     {CALL(java_read), BYTES("\0\x3C" TIMES_20("abc") ZERO TIMES_20(ALIKE)), OK,
@@ -388,10 +388,10 @@ static const struct row rows[] = {
      BYTES(TIMES_100(ALIKE REPLACEMENT REPLACEMENT)), 802},
 };
 
-// Each block has so many bytes, between two pages that no call may touch.
+// The size of a block, which is between two pages that no call may access.
 enum { SPACE = 204800, FILLING = '~' };
 
-// A call's bytes, at the front of their block or at its end.
+// The bytes of a call, at the start of their block or at its end.
 struct block {
     char *start;
 };
@@ -414,7 +414,7 @@ static char *place(struct block block, enum side side, size_t length)
     return side == FRONT ? block.start : block.start + SPACE - length;
 }
 
-// What has to come back, with the bytes that the buffer has to have then.
+// The expected result, with the expected content of the buffer.
 static struct told expected(const struct row *row, size_t buffer_length, char *buffer)
 {
     if (row->status != OK)
@@ -439,8 +439,8 @@ static void print_wrong(const struct row *row, size_t buffer_length, struct told
            wanted.length, wanted.taken, is_buffer_right ? "right" : "wrong");
 }
 
-// Makes the call of a row, with input and buffer on these sides of their blocks. Of the buffer's block
-// so much is looked at as the call could know of, and a little more.
+// Makes the call of a row, with input and buffer on these sides of their blocks. As many bytes of the
+// buffer's block are compared as the input, the result and the buffer have together, and 64 more.
 static bool agrees(const struct row *row, size_t buffer_length, enum side side, bool is_null)
 {
     static struct block inputs, buffers;
@@ -487,7 +487,7 @@ static void hold(bool holds, const char *name, const char *what)
     printf("wrong: %s: %s\n", name, what);
 }
 
-// The macros for a length that is always enough: each is for some of the calls.
+// The macros for buffer lengths that are always enough, each for some of the calls.
 static const struct {
     const char *name;
     call *calls[8];
@@ -501,7 +501,7 @@ static const struct {
     {"CESU8_MAX_JAVA_READ_LOSSY", {java_read_lossy}},
 };
 
-// What each macro says of an input of this length.
+// The value of each macro for an input of this length.
 static size_t always_enough(size_t macro, size_t n)
 {
     const size_t lengths[] = {
@@ -519,7 +519,7 @@ static bool is_for(size_t macro, const struct row *row)
     return false;
 }
 
-// That no result is longer than a macro says, and that one is as long.
+// Tests that no result is longer than its macro says, and that one is exactly as long.
 static void look_at_macro(size_t macro)
 {
     bool is_enough = true, is_needed = false;
@@ -533,7 +533,7 @@ static void look_at_macro(size_t macro)
     hold(is_needed, macros[macro].name, "each result is shorter");
 }
 
-// A 0 behind MUTF-8 ends it where it ends, as JNI wants it, since no byte of it is 00.
+// A 0 appended to MUTF-8 terminates it, as JNI needs it, since MUTF-8 has no byte 00.
 static void look_at_terminated(void)
 {
     static const uint8_t text[] = ALIKE ZERO FOUR_BYTES;
@@ -605,7 +605,7 @@ CONVERTS_LAST(mutf8_stream_decode_lossy_strict)
 CONVERTS(stream_encode)
 CONVERTS(mutf8_stream_encode)
 
-// What one call makes of a piece in a buffer of this length.
+// The expected result of a call for a piece and a buffer of this length.
 struct piece_row {
     const char *name;
     stream *call;
@@ -703,7 +703,7 @@ static void convert_row(const struct piece_row *row, enum side side, bool is_nul
     hold(memcmp(buffer, wanted, m) == 0, row->name, "leaves other bytes in the buffer");
 }
 
-// An input that is converted in pieces, and all that the calls write.
+// An input that is converted in pieces, and the expected output of all calls together.
 struct joined_row {
     const char *name;
     stream *call;
@@ -726,8 +726,8 @@ static const struct joined_row joined_rows[] = {
      BYTES(SURROGATES ALIKE C0_80 SURROGATES ALIKE)},
 };
 
-// Converts the input in pieces of `step` bytes, by a buffer of `m` bytes for each call, and compares all
-// that is written.
+// Converts the input in pieces of `step` bytes, with a buffer of `m` bytes for each call, and compares the
+// whole output.
 static bool converts_joined(const struct joined_row *row, size_t step, size_t m)
 {
     uint8_t output[256];
@@ -788,8 +788,8 @@ int main(void)
     look_at_pieces();
     for (const struct row *row = rows; row < rows + sizeof rows / sizeof *rows; row++) {
         size_t needed = row->status == OK ? row->answer.length : row->input.length;
-        // Each length up to one more than is needed; of the longest ones the first and the last. And
-        // one with room for a vector behind the result.
+        // Each length up to one more than is needed; for long results the first and the last ones. And one
+        // with space for a vector after the result.
         for (size_t length = 0; length <= needed + 1; length++) {
             if (length == 100 && needed > 10000)
                 length = needed - 100;

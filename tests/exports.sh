@@ -2,17 +2,17 @@
 # Tests the library for C, crates/cesu8_c, in these steps:
 # 1. It compares the names of the exports with those of the header, the chooser, the version map, the
 #    rows of tests/exports.c and tests/digest.c.
-# 2. It compiles tests/header.c, which uses all that the header declares, in each standard of C and of
-#    C++ and with most warnings of each compiler, and sees that the header's attributes warn.
-# 3. It tests the chooser with stubs behind it.
+# 2. It compiles tests/header.c, which uses everything that the header declares, in each standard of C and
+#    of C++ and with most warnings of each compiler, and tests that the header's attributes give warnings.
+# 3. It tests the chooser with stubs for the code of the levels.
 # 4. It builds the static library for one level, and links and runs tests/exports.c with it, which
 #    calls each export.
 # tests/dist.sh does the last step with the archive and the shared object of the release, which it
 # builds, and builds and runs all callers.
 #
 # If there is no C or C++ compiler or no clang, it says what it skipped. The status is 0 if nothing is
-# wrong. In a clean clone it proves the libraries first, by one job, since more take more of the
-# processors' time.
+# wrong. In a clean clone it first proves the libraries, with one job, since several jobs take more
+# processor time.
 #
 # It needs the kit's `rt`, bash, awk, grep, sed and the core utilities, and the compilers `cc`, `c++`,
 # `clang` and `clang++` for what they compile.
@@ -25,13 +25,13 @@ header=$crate/include/cesu8.h
 # shellcheck source=tests/c_library.sh
 source "$top/tests/c_library.sh" || exit 2
 
-# Compares two lists of names: `same_names WHAT`, with the wanted ones first.
+# Compares two lists of names, the expected one first: `same_names WHAT`.
 same_names() {
     diff "$scratch/wanted" "$scratch/found" || wrong "$1 has other names"
 }
 
-# That the rows of tests/exports.c, tests/digest.c, the header, the chooser and the version map have each
-# call.
+# Tests that the rows of tests/exports.c and tests/digest.c, the header, the chooser and the version map
+# have every call.
 all_are_named() {
     exports | sort >"$scratch/wanted"
     sed -n 's/^    {CALL(\([a-z0-9_]*\)).*/\1/p' "$top/tests/exports.c" | sort -u >"$scratch/found"
@@ -60,7 +60,7 @@ compile_header() {
     done
 }
 
-# That `cc` warns of these faults in tests/header.c, if it knows the attribute that is for them:
+# Tests that `cc` warns about these faults in tests/header.c, if it knows the attribute for them:
 # `warns_by ATTRIBUTE FAULT..`.
 warns_by() {
     local attribute=$1 fault
@@ -78,7 +78,8 @@ warns_by() {
     done
 }
 
-# Builds the chooser so that it asks a function of the test what the processor has, and as it is.
+# Builds the chooser twice: unmodified, and so that it asks a function of the test for the processor's
+# level.
 run_chooser() {
     local flags=(-std=c11 -O2 -Wall -Wextra -Werror -I "$crate/include" -I "$crate")
     printf 'int made_up_supports(const char *level);\n#include "chooser.c"\n' >"$scratch/made_up.c"
@@ -93,7 +94,7 @@ run_chooser() {
     fi
 }
 
-# The library for the lower level, which stays in out/ for tests/dist.sh.
+# Builds the library for the lower level, which remains in out/ for tests/dist.sh.
 build_library() {
     echo 'building the static library'
     if ! (cd "$crate" && quietly rt lib ${PROOF_JOBS:+--jobs "$PROOF_JOBS"}); then

@@ -1,7 +1,7 @@
-// Uses all that cesu8.h declares: each call, each member of a record, each status and each macro. The
-// script compiles it as C and as C++, with all warnings that the compilers have, and never runs it.
+// Uses everything that cesu8.h declares: each call, each member of a struct, each status and each macro.
+// The script compiles it as C and as C++, with all warnings of the compilers, and never runs it.
 //
-// With -DWRONG=N it has one of the faults that a compiler with the header's attributes warns of.
+// With -DWRONG=N it has one of the faults about which a compiler with the header's attributes warns.
 
 #include "cesu8.h"
 

@@ -1,34 +1,34 @@
 #!/usr/bin/env bash
-# Counts and refuses requests for memory, by each public call of `simd_cesu8`, `java_text` and
-# `cesu8_stream`. tests/requests.sh does so for the built program.
+# Counts the allocations of each public call of `simd_cesu8`, `java_text` and `cesu8_stream`, and makes
+# each of them fail. tests/requests.sh does this for the built program.
 #
-# The rows below are every public call, on inputs that borrow, build, are refused and are empty, and
-# at the lengths where blocks begin and end. A row has the expected result and the number of requests.
+# The rows below are every public call, on inputs that are borrowed, converted, rejected and empty, and
+# at lengths near the borders of blocks. A row has the expected result and the number of allocations.
 # Both come from the standards' table of encoded characters in crates/test_cases, and these rules:
-# - a result borrows, without a request, exactly where its bytes are the input's;
-# - what is built, copied or refused takes one, and so does what is appended if the buffer is full;
-# - what is appended leaves a full buffer with twice its capacity, with what is needed, or with 8 bytes,
-#   whichever is most, as `Vec::push` does; one with enough room keeps its capacity;
+# - a result is borrowed, without an allocation, exactly when its bytes are the input's;
+# - a call allocates once to build or copy a result, or to reject input, and once to append to a buffer
+#   that is full;
+# - appending to a full buffer leaves it with twice its capacity, with the needed capacity, or with 8
+#   bytes, whichever is greatest, as `Vec::push` does; a buffer with enough space keeps its capacity;
 # - an empty copy, a length, a comparison, a result in a slice, a piece, and a Java string that is too
-#   long or cut short take none.
+#   long or truncated allocate nothing.
 #
 # The program of crates/memory_calls makes the calls that its standard input names, on one input. It
-# prints each result, and how many of three further requests are granted before one is refused.
-# `rt try` refuses one request of a process: here always the third, before which the program makes
-# some itself.
+# prints each result, and how many of three further allocations succeed before one fails. `rt try` makes
+# one allocation of a process fail: here always the third; the program makes some itself before it.
 #
-# Each request of a call is refused in turn. Then the call has to return out of memory for any input,
-# a caller's buffer keeps its content, and what a refused copy borrows is still there. Each call is also
-# made where the first request after its own is refused, and has to succeed. So it makes exactly as many
-# requests as its row says. One process asks both, of two calls on an input: the first makes all of its
-# requests, and the next is refused its own. Calls without a request come between. What several rows ask
-# is asked once.
+# Each allocation of a call fails in turn. Then the call must return out of memory for any input, a
+# caller's buffer must keep its content, and what a failed copy borrows must still be there. Each call is
+# also made so that the first allocation after its own fails, and must succeed. So it makes exactly as
+# many allocations as its row says. One process tests both with two calls on an input: the first makes
+# all of its allocations, and that of the next fails. Calls without an allocation are made between them.
+# A test that several rows have in common is made once.
 #
-# In which order a call makes its requests, and what it has read or written before, is not seen. The
-# capacity of what is built is stated by a clause, and tests/requests.sh sees how much is requested where
-# bytes are refused.
+# The script does not see in which order a call allocates, nor what it has read or written before. A
+# clause states the capacity of what is built, and tests/requests.sh sees how much is allocated for input
+# that is rejected.
 #
-# It prints what is wrong, and counts the processes at the end. The status is 0 if nothing is wrong.
+# It prints what is wrong, and the number of processes at the end. The status is 0 if nothing is wrong.
 # It needs the kit's `rt` (which builds here without proof), bash, sed and the core utilities.
 # shellcheck source=tests/lib.sh
 source "$(dirname "${BASH_SOURCE[0]}")/lib.sh" || exit 2
@@ -36,13 +36,13 @@ source "$(dirname "${BASH_SOURCE[0]}")/lib.sh" || exit 2
 source "$top/tests/kit.sh" || exit 2
 mkdir "$scratch/cases" || exit 2
 
-# The inputs, and of each the calls that make no request, and those that do, in lines.
+# The inputs, and for each the calls that allocate nothing, and those that allocate, one a line.
 inputs=()
 silent=()
 asking=()
 
-# The number of each input; and by the number and the call, what it prints and how many requests it
-# makes.
+# The number of each input. By this number and the call: what the call prints, and how often it
+# allocates.
 declare -A numbers=() printed_by=() made_by=()
 
 # The bytes of a list of test_cases, as `printf %b` takes them: `pattern NAME`.
@@ -70,8 +70,8 @@ row() {
     fi
 }
 
-# The characters that are told apart here, in UTF-8, CESU-8 and MUTF-8: two letters, and the scalar values
-# of test_cases. And the reading of their UTF-8 as each encoding: where it is none, U+FFFD for each byte.
+# The characters of the rows, in UTF-8, CESU-8 and MUTF-8: two letters, and the scalar values of
+# test_cases. Also the lossy reading of their UTF-8 in each encoding.
 mark='\xEF\xBF\xBD'
 declare -A in_utf8 in_cesu8 in_mutf8 damaged_cesu8 damaged_mutf8
 
@@ -85,8 +85,8 @@ add_character() {
     [[ $4 == "$2" ]] && damaged_mutf8[$1]=$2
 }
 
-# Adds the scalar values of test_cases, whose rows leave out what is as before, and keeps their names in
-# `scalars`.
+# Adds the scalar values of test_cases, whose rows omit a form that equals the one before it, and keeps
+# their names in `scalars`.
 add_scalars() {
     local name utf8 cesu8 mutf8
     while read -r name utf8 cesu8 mutf8; do
@@ -107,7 +107,7 @@ add_scalars
 add_character a a a a
 add_character A A A A
 
-# Keeps the text of these characters in each form, each as many times: `text TIMES CHARACTER..`.
+# Sets the current text in each form: TIMES times each of these characters: `text TIMES CHARACTER..`.
 text() {
     local bytes
     utf8='' cesu8='' mutf8='' read_as_cesu8='' read_as_mutf8=''
@@ -121,7 +121,7 @@ text() {
     done
 }
 
-# Keeps in grown the capacity of a buffer of this one that so many bytes are needed of: `grow CAPACITY NEED`.
+# Sets `grown` to the capacity to which a buffer grows if it needs NEED bytes: `grow CAPACITY NEED`.
 grow() {
     grown=$1
     (($1 < $2)) || return 0
@@ -129,7 +129,7 @@ grow() {
     ((grown >= 8)) || grown=8
 }
 
-# The calls that take a text, of the text that is kept: `text_rows ENCODING..`.
+# Rows of the calls that take a text, for the current text: `text_rows ENCODING..`.
 text_rows() {
     encode_rows "$@"
     append_rows "$@"
@@ -180,8 +180,8 @@ append_rows() {
     done
 }
 
-# The kernels, on the UTF-8 of the text that is kept. Their classes are the bytes at which an encoding
-# is another: `kernel_rows ENCODING..`.
+# Rows of the kernels, on the UTF-8 of the current text. Their classes are the bytes that the encodings
+# change: `kernel_rows ENCODING..`.
 kernel_rows() {
     local encoding found module
     for encoding in "$@"; do
@@ -193,7 +193,7 @@ kernel_rows() {
     done
 }
 
-# The calls that take bytes, on the encoding of the text that is kept: `encoding_rows ENCODING..`.
+# Rows of the calls that take bytes, on the encoding of the current text: `encoding_rows ENCODING..`.
 encoding_rows() {
     local encoding encoded length outcome requests call
     measure "$utf8"
@@ -220,8 +220,8 @@ encoding_rows() {
     done
 }
 
-# The calls that take bytes, on the UTF-8 of the text that is kept, which is no encoding of a text:
-# what a lenient call borrows, a strict one refuses: `utf8_rows ENCODING..`.
+# Rows of the calls that take bytes, on the UTF-8 of the current text, which is not the encoding of any
+# text: lenient calls borrow it and strict calls reject it: `utf8_rows ENCODING..`.
 utf8_rows() {
     local encoding name reading length call
     for encoding in "$@"; do
@@ -243,9 +243,9 @@ utf8_rows() {
     done
 }
 
-# The same calls, on the encoding of the text that is kept and then so many bytes that are in no
-# encoded character. One request comes before the first byte is read, so its refusal hides the damage:
-# `damage_rows COUNT BYTES`. The first half of a pair may go on in the next piece.
+# Rows of the calls that take bytes, on the encoding of the current text and then COUNT damaged bytes:
+# `damage_rows COUNT BYTES`. A call allocates before it reads, so if that fails, the damage is not
+# reported. The first half of a pair may continue in the next piece.
 damage_rows() {
     local encoding damaged reading length call bytes reason=malformed
     [[ $2 == '\xED\xA0\xBD' ]] && reason=incomplete
@@ -273,12 +273,12 @@ damage_rows() {
     done
 }
 
-# Keeps in written these bytes of MUTF-8, after the two that count them: `form BYTES COUNT`.
+# Sets `written` to these bytes of MUTF-8 after the two that count them: `form BYTES COUNT`.
 form() {
     printf -v written '\\x%02X\\x%02X%s' "$(($2 / 256))" "$(($2 % 256))" "$1"
 }
 
-# Writing a Java string, of the text that is kept. One that is too long is told before any request.
+# Rows that write the current text as a Java string. If it is too long, nothing is allocated.
 write_rows() {
     local length written grown
     measure "$mutf8"
@@ -299,7 +299,8 @@ write_rows() {
     row 'write_utf_less mutf8' "$utf8" "written, capacity $grown" 2 "$written"
 }
 
-# Reading one, of the text that is kept, with bytes after it; and one that counts a byte more.
+# Rows that read the current text as a Java string, with bytes after it, and with a count that is one
+# greater.
 read_rows() {
     local length written call outcome=owned requests=1
     measure "$mutf8"
@@ -316,8 +317,7 @@ read_rows() {
     done
 }
 
-# Reading one whose counted bytes are the MUTF-8 of the text that is kept and then one that is in no
-# encoded character.
+# Rows that read a Java string whose counted bytes are the MUTF-8 of the current text and a damaged byte.
 damaged_read_rows() {
     local length written
     measure "$mutf8"
@@ -329,7 +329,7 @@ damaged_read_rows() {
     row 'read_utf_lossy_to_slice mutf8' "${written}rest" written 0 "$utf8$mark\\nrest"
 }
 
-# Keeps a text that stays as it is in both encodings, or one that is other bytes in each, so many times:
+# Sets the current text to one that is unchanged in both encodings, or to one that differs in each:
 # `keep_pattern stays` or `keep_pattern changes TIMES`.
 keep_pattern() {
     local bytes
@@ -377,8 +377,8 @@ short_rows() {
     row 'into_string cesu8' "$utf8" owned 1 "$utf8"
 }
 
-# Each scalar value of test_cases, and two texts that append it: to an empty buffer that has the room for
-# them, and behind other bytes.
+# Each scalar value of test_cases, and two texts with it that are appended: to an empty buffer with enough
+# space, and after other bytes.
 scalar_rows() {
     local name
     for name in "${scalars[@]}"; do
@@ -391,7 +391,7 @@ scalar_rows() {
     append_rows cesu8
 }
 
-# Calls that have no input, or show what they refuse, which comes before the outcome.
+# Calls that have no input, or print what they reject before the outcome.
 other_rows() {
     row 'laws cesu8' '' true 0 ''
     local all
@@ -406,8 +406,8 @@ other_rows() {
     row 'faults mutf8' '\x00' "$all" 1 ''
 }
 
-# At a length: letters alone; of so many bytes with a character at their end that is other bytes in an
-# encoding; with such a character across it; and with damage that ends there.
+# Inputs of this length: only letters; letters that end in a character that an encoding changes; with
+# such a character across the length; and with damage that ends there.
 border_rows() {
     local length=$1 front=$(($1 > 3 ? $1 - 3 : $1))
     text "$length" a
@@ -440,8 +440,8 @@ border_rows() {
     damaged_read_rows
 }
 
-# Where nothing stays as it is, and each block ends in another part of a character: the longest
-# inputs, and the longest Java string.
+# The longest inputs, and the longest Java string. Every character needs conversion, and each block ends
+# in another part of one.
 long_rows() {
     local bytes
     keep_pattern changes 819
@@ -477,8 +477,8 @@ for border in 0 1 63 64 65 256 257 1023 1024 1025 65536; do
 done
 long_rows
 
-# Keeps in refusal what a call on an input prints if its request of this place is refused:
-# `refuse CALL PLACE INPUT`. The first of a call on a full buffer is the buffer's own.
+# Sets `refusal` to what a call on an input prints if its allocation of this number fails:
+# `refuse CALL PLACE INPUT`. The first allocation of a call on a full buffer is that of the buffer.
 refuse() {
     refusal=$'memory\n\n'
     case $1:$2 in
@@ -488,8 +488,8 @@ refuse() {
     esac
 }
 
-# A process that makes these calls, given in lines, on an input. So many of their requests come
-# before the refused one: `process NAME CALLS INPUT BEFORE PRINTED MORE`.
+# Adds a process that makes these calls, one a line, on an input. BEFORE allocations are made before the
+# one that fails: `process NAME CALLS INPUT BEFORE PRINTED MORE`.
 process() {
     local calls=${2%$'\n'} file
     processes=$((processes + 1))
@@ -498,8 +498,8 @@ process() {
     printf '%b%s more\n' "$5" "$6" >"$file.stdout"
 }
 
-# Takes the first so many calls from `waiting`, which make no request, and keeps them in `between`, in
-# lines, with what they print in `printed`: `take COUNT NUMBER`.
+# Moves the first COUNT calls from `waiting`, which allocate nothing, to `between`, one a line, and sets
+# `printed` to what they print: `take COUNT NUMBER`.
 take() {
     local call
     between='' printed=''
@@ -510,10 +510,10 @@ take() {
     waiting=("${waiting[@]:$1}")
 }
 
-# The processes for all calls on the input of this number: `processes_on NUMBER`. Before a call that
-# is refused its first request comes the one that was refused before, in the first process the last.
-# The calls that make no request come between, as many in each process, since `rt try` takes no more
-# than 1 MiB of output from one.
+# Adds the processes for all calls on the input of this number: `processes_on NUMBER`. Each process makes
+# a call that succeeds and then one whose first allocation fails; the former is the one that failed in
+# the process before, and in the first process the last one. The calls that allocate nothing come
+# between, the same number in each process, since `rt try` takes at most 1 MiB of output from one.
 processes_on() {
     local number=$1 input=${inputs[$1]}
     local waiting=() calls=() between printed call previous place share
@@ -544,11 +544,11 @@ for number in "${!inputs[@]}"; do
     processes_on "$number"
 done
 
-# The interpreter, which `rt try` asks beside the compiled program, can run none of them: it gets one step.
+# `rt try` also runs the interpreter, which cannot run these programs, so it gets a single step.
 (cd "$top/crates/memory_calls" && rt try --fail-alloc 3 --steps 1 --cases "$scratch/cases") \
     </dev/null >"$scratch/output" 2>&1
 
-# What a wrong process printed stands in a line of its own, and where none ran, the output says why.
+# The output of a process that failed is on a line of its own. If no process ran, the output says why.
 passed=$(grep -a -c '^case=[^ ]* run=ended status=0 .*output=expected' "$scratch/output")
 failed=$((processes - passed))
 if ((failed > 0)); then

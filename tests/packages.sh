@@ -1,18 +1,18 @@
 #!/usr/bin/env bash
-# Looks at the Debian packages of the release by dpkg-deb, installs them in an empty root by dpkg, and
-# uses them there: it links the example in C with the static library and with the shared object, by the
-# compiler, by pkg-config and by CMake, and runs the programs. Then it removes them.
+# Inspects the Debian packages of the release with dpkg-deb, installs them in an empty root with dpkg, and
+# uses them there: it links the example in C with the static library and with the shared object, with the
+# compiler alone, with pkg-config and with CMake, and runs the programs. Then it removes them.
 #
-# It also checks that packages.sh builds the same bytes again; that no file is in two packages; the
-# sums, owners, modes and times; and the symbols and the C library that are needed, against the files
-# themselves and what dpkg-gensymbols and dpkg-shlibdeps find. `lintian` may name no error.
+# It also tests that packages.sh builds the same bytes again; that no file is in two packages; the hashes,
+# owners, modes and times; and the needed symbols and C library, by comparing them with the files
+# themselves and with what dpkg-gensymbols and dpkg-shlibdeps find. `lintian` must report no error.
 #
-# The packages for arm64 are installed beside those for amd64, by apt too, and used there as C.md says, in
-# an emulator.
+# The packages for arm64 are installed together with those for amd64, also with apt, and used there as C.md
+# says, in an emulator.
 #
-# RELEASE names the folder that dist.sh has filled; where it is not set, dist.sh is run. Without
-# dpkg-deb it says that it skipped everything, and which other tool is missing. The status is 0 if
-# nothing is wrong. It needs what tests/release.sh does.
+# RELEASE names the folder that dist.sh has filled; if it is not set, dist.sh is run. Without dpkg-deb the
+# script skips everything and says so; it also says which other tools are missing. The status is 0 if
+# nothing is wrong. It needs what tests/release.sh needs.
 # shellcheck source=tests/lib.sh
 source "$(dirname "${BASH_SOURCE[0]}")/lib.sh" || exit 2
 umask 022
@@ -33,14 +33,14 @@ file_of() {
     echo "$release/$1_${debian}_amd64.deb"
 }
 
-# Compares a field with what it has to be: `expect_field NAME FIELD WANTED`.
+# Compares a field with its expected value: `expect_field NAME FIELD WANTED`.
 expect_field() {
     local found
     found=$(dpkg-deb --field "$(file_of "$1")" "$2")
     [[ $found == "$3" ]] || wrong "$1 has $2 '$found', and not '$3'"
 }
 
-# The newest version of the C library that files name: `c_library FILE..`.
+# Prints the newest version of the C library whose symbols files use: `c_library FILE..`.
 c_library() {
     readelf --dyn-syms --wide "$@" | grep -o '@GLIBC_[0-9.]*' | sort -Vu | tail -n 1 |
         sed 's/^@GLIBC_//'
@@ -86,7 +86,8 @@ files_of() {
     (cd "$scratch/$1" && find . -path ./DEBIAN -prune -o -not -type d -printf '%P\n' | sort)
 }
 
-# The wanted files of a package, beside those of the release that are read from it: `wanted_files NAME`.
+# Prints the expected files of a package, apart from those whose names are read from the release:
+# `wanted_files NAME`.
 wanted_files() {
     local doc=usr/share/doc/$1 file
     printf '%s\n' "$doc"/{BUILT-FROM,SECURITY.md,changelog.Debian.gz,changelog.gz,copyright}
@@ -147,7 +148,7 @@ look_at_library() {
     [[ $(<"$control/shlibs") == "libcesu8 $major $library (>= $version)" ]] ||
         wrong 'shlibs says something else'
     [[ $(<"$control/triggers") == 'activate-noawait ldconfig' ]] || wrong 'triggers says something else'
-    # The version map is where the nodes come from.
+    # The expected nodes come from the version map.
     awk '
         $2 == "{" { node = $1; print " " node "@" node, substr(node, 7) ".0" }
         /^ +cesu8_[a-z0-9_]+;$/ {
@@ -180,7 +181,7 @@ build_again() {
     done
 }
 
-# What Debian's own tools find, in a folder with the little of a source package that they read.
+# Compares with what Debian's own tools find, in a folder with the parts of a source package that they read.
 compare_with_tools() {
     local folder=$scratch/source library=${names[0]}
     mkdir -p "$folder/debian" || exit 2
@@ -205,7 +206,7 @@ compare_with_tools() {
     fi
 }
 
-# Runs dpkg on a root of its own, where only the C library of this machine is known: `on_root ARGUMENT..`.
+# Runs dpkg on a separate root, which knows only this machine's C library: `on_root ARGUMENT..`.
 on_root() {
     PATH=$PATH:/usr/sbin:/sbin quietly dpkg --root="$root" --force-not-root --log=/dev/null "$@"
 }
@@ -240,7 +241,7 @@ use_packages() {
     wants_shared "$scratch/example" || wrong 'the shared object is not linked'
     if can_build 'keys.c by pkg-config' pkg-config --version; then
         export PKG_CONFIG_SYSROOT_DIR=$root PKG_CONFIG_LIBDIR=$root/$libdir/pkgconfig
-        # The compiler knows the folders of the system, so pkg-config leaves them out.
+        # The compiler searches the system's folders by default, so pkg-config omits them.
         export PKG_CONFIG_ALLOW_SYSTEM_CFLAGS=1 PKG_CONFIG_ALLOW_SYSTEM_LIBS=1
         [[ $(pkg-config --modversion cesu8) == "$version" ]] || wrong 'pkg-config has another version'
         by_both 'keys.c by pkg-config'
@@ -267,7 +268,7 @@ look_by_lintian() {
     quietly lintian --allow-root --fail-on error "${files[@]}" || wrong 'lintian finds errors'
 }
 
-# The packages for arm64, beside those for amd64.
+# Tests the packages for arm64 together with those for amd64.
 cross_names=("libcesu8-$major" libcesu8-dev)
 cross_libdir=usr/lib/aarch64-linux-gnu
 
@@ -276,8 +277,8 @@ cross_file_of() {
     echo "$release/$1_${debian}_arm64.deb"
 }
 
-# What the fields say, and that a package has the files of that for amd64, in the folders of arm64. dpkg
-# refuses two packages with one file that differs.
+# Tests the fields, and that a package has the same files as that for amd64, in the folders for arm64. dpkg
+# does not install two packages if a file that both have differs.
 look_at_cross_packages() {
     local name field needed shared=$cross_libdir/libcesu8.so.$major
     mkdir "$scratch/arm64" || exit 2
@@ -311,7 +312,7 @@ look_at_cross_packages() {
         "$scratch/arm64/${cross_names[0]}/$shared" || wrong 'the shared object for arm64 is another'
 }
 
-# The root of both, where only the C library is known, for each.
+# Makes a root for both architectures, which knows only the C library of each.
 new_root() {
     local architecture
     mkdir -p "$root"/{etc/apt/sources.list.d,etc/apt/preferences.d,var/cache/apt/archives/partial,var/log/apt} \
@@ -324,8 +325,8 @@ new_root() {
     on_root --add-architecture arm64 || wrong 'dpkg knows no arm64'
 }
 
-# Runs apt-get on that root, which knows no packages but those that it is given, and reads nothing of this
-# machine's: `apt_on_root WORD..`.
+# Runs apt-get on that root: `apt_on_root WORD..`. It knows only the packages that it is given, and reads no
+# configuration of this machine.
 apt_on_root() {
     cat >"$scratch/apt.conf" <<CONF
 Dir "$root";
@@ -336,7 +337,7 @@ CONF
     APT_CONFIG=$scratch/apt.conf PATH=$PATH:/usr/sbin:/sbin quietly apt-get --yes "$@"
 }
 
-# Installs the packages for amd64, and beside them those for arm64, by apt where it is there.
+# Installs the packages for amd64 and those for arm64, with apt if it is installed.
 install_both() {
     local name all=() cross=()
     for name in "${names[@]}"; do all+=("$(file_of "$name")"); done

@@ -2,13 +2,13 @@
 # the repository's folder, and `scratch`, a folder for the output of the build.
 # shellcheck shell=bash disable=SC2154
 
-# The gate names the program that it has proved and linked, so it is not proved again.
+# The gate sets PROVED_PROGRAM to the program that it has proved, so that it is not proved again.
 # shellcheck disable=SC2034
 program=${PROVED_PROGRAM:-$top/crates/cesu8_cli/out/cesu8_cli}
 
-# `rt run` leaves the program in out/, and is the only command that does (`rt try` builds without
-# proof, and keeps nothing). In a clean clone it proves the two crates first. With no change since
-# the last run it only runs the program.
+# Builds the program by `rt run`, the only command that keeps it in out/ (`rt try` builds without
+# proof, and keeps nothing). In a clean clone `rt run` first proves the program and the libraries
+# below it. If nothing has changed since the last run, it only runs the program.
 build() {
     [[ -z ${PROVED_PROGRAM-} ]] || return 0
     # shellcheck source=tests/kit.sh

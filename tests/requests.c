@@ -1,7 +1,6 @@
-/* Tells a program's requests for memory, and refuses one. `cc -shared` makes a library of it, which
-   LD_PRELOAD puts in front of the C library. Each request writes its size to descriptor 9, as a line.
-   REFUSED is the number of the request that is refused, counted from 1; with no such variable none
-   is. */
+/* Reports a program's allocations, and makes one fail. `cc -shared` makes a library of it, which
+   LD_PRELOAD loads before the C library. Each allocation writes its size to descriptor 9, as a line. The
+   variable REFUSED is the number of the allocation that fails, counted from 1; without it none fails. */
 
 #define _GNU_SOURCE
 #include <dlfcn.h>
@@ -12,8 +11,8 @@
 
 static long requests;
 
-/* Writes the size as a line. No function of the C library may do it, since it may request memory. */
-static void tell(size_t size)
+/* Writes the size as a line, without functions of the C library, since these may allocate. */
+static void report(size_t size)
 {
     char line[21];
     size_t start = sizeof line;
@@ -26,12 +25,12 @@ static void tell(size_t size)
         abort();
 }
 
-/* Whether a request of this size is granted. */
+/* Reports an allocation of this size, and returns whether it may succeed. */
 static int is_granted(size_t size)
 {
     const char *refused = getenv("REFUSED");
     requests += 1;
-    tell(size);
+    report(size);
     if (refused == NULL || atol(refused) != requests)
         return 1;
     errno = ENOMEM;

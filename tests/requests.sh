@@ -1,23 +1,23 @@
 #!/usr/bin/env bash
-# Refuses memory to the built program, for every command.
+# Makes allocations of the built program fail, for every command.
 #
-# First each of its requests is refused in turn, until a run meets none. If a request for the
-# arguments is refused, the program has to report failed input or output, and if a later one is, out
-# of memory. Both times it writes nothing. The run without a refusal has to write its output. On
-# short inputs the requests are counted too: beside those for the arguments one for the input, and
-# one more if the output is built. On longer input, reading may make any number. Where the decoder
-# refuses bytes after its request, that has to ask for as many bytes as there are, whatever their number,
-# the damage and its place. (Of what is built a clause states the capacity.)
+# First each of its allocations fails in turn, until a run makes fewer. If an allocation for the
+# arguments fails, the program must report failed input or output, and if a later one fails, out of
+# memory. In both cases it must write nothing. The run without a failure must write its output. For
+# short inputs the allocations are counted too: besides those for the arguments, there is one for the
+# input, and one more if the output is built. For longer input, reading may make any number. If the
+# decoder rejects input after it allocated, it must have allocated the input's length, whatever the
+# damage and its offset. (For what is built, a clause states the capacity.)
 #
-# Then its whole memory is limited, from too little for 10 MB of input to enough, for each command.
-# The program has to write the whole output, or report out of memory and write nothing. Both have to
-# occur. This needs no compiler.
+# Then the memory of the process is limited, from too little for 10 MB of input to enough, for each
+# command. The program must write the whole output, or report out of memory and write nothing. Both must
+# occur. This part needs no compiler.
 #
 # It prints what is wrong, and the counts at the end. The status is 0 if nothing is wrong. It takes
 # less than a minute once the program is built.
 #
-# It needs the kit's `rt`, bash and the core utilities, and `cc` for tests/requests.c, which stands
-# between the program and the C library. If there is none, it skips the refusal of single requests.
+# It needs the kit's `rt`, bash and the core utilities, and `cc` for tests/requests.c, which is loaded
+# between the program and the C library. Without `cc` it skips the failures of single allocations.
 # shellcheck source=tests/lib.sh
 source "$(dirname "${BASH_SOURCE[0]}")/lib.sh" || exit 2
 
@@ -25,15 +25,15 @@ io='cesu8: input or output failed'
 memory='cesu8: out of memory'
 : >"$scratch/nothing"
 
-# Writes the input, and what has to be written of it; a line stands for the answer where there is
-# none. Both are as `printf %b` takes them: `keep INPUT ANSWER`.
+# Writes the input and the expected output to files, or a line if no output is expected. Both are in the
+# form of `printf %b`: `keep INPUT ANSWER`.
 keep() {
     printf '%b' "$1" >"$scratch/input"
     printf '%b' "$2" >"$scratch/wanted"
 }
 
-# Runs the program on $scratch/input with the request of this number refused, or none at 0. The sizes
-# of the requests are kept in sizes, and their count in requests: `run_refusing REFUSED WORD..`.
+# Runs the program on $scratch/input so that its allocation of this number fails, or none if it is 0. Sets
+# `sizes` to the sizes of the allocations and `requests` to their number: `run_refusing REFUSED WORD..`.
 run_refusing() {
     local refused=$1
     shift
@@ -44,8 +44,8 @@ run_refusing() {
     requests=${#sizes[@]}
 }
 
-# Refuses each request in turn, until a run meets none, which has to end with this status and line:
-# `refuse_in_turn NAME COMMAND FLAVOR STATUS LINE`.
+# Makes each allocation fail in turn, until a run makes fewer. That run must end with this status and
+# line: `refuse_in_turn NAME COMMAND FLAVOR STATUS LINE`.
 refuse_in_turn() {
     local refused
     for ((refused = 1; refused <= 1000; refused++)); do
@@ -62,23 +62,23 @@ refuse_in_turn() {
     wrong "$1, its requests, which do not end"
 }
 
-# Counts whether the last run made so many requests after those for the arguments: `expect_requests WHAT
+# Tests that the last run made COUNT allocations after those for the arguments: `expect_requests WHAT
 # COUNT`.
 expect_requests() {
     expect "$1, its requests: $requests, and $arguments for the arguments" \
         [ "$requests" -eq $((arguments + $2)) ]
 }
 
-# A short input and its answer: `row COMMAND FLAVOR REQUESTS INPUT ANSWER`, with the requests after
-# those for the arguments.
+# A short input and its output: `row COMMAND FLAVOR REQUESTS INPUT ANSWER`, with the number of
+# allocations after those for the arguments.
 row() {
     keep "$4" "$5"
     refuse_in_turn "$1 $2 on $4" "$1" "$2" 0 ''
     expect_requests "$1 $2 on $4" "$3"
 }
 
-# A short input that is refused, and the line that says so, where the decoder requests memory also how
-# many bytes: `refused_row COMMAND FLAVOR REQUESTS INPUT LINE [SIZE]`.
+# A short input that is rejected, the error line, and, if the decoder allocates, the number of bytes:
+# `refused_row COMMAND FLAVOR REQUESTS INPUT LINE [SIZE]`.
 refused_row() {
     keep "$4" ''
     refuse_in_turn "$1 $2 on $4" "$1" "$2" 1 "$5"
@@ -90,7 +90,7 @@ rows() {
     local flavor command heart='\xF0\x9F\x92\x96' pair='\xED\xA0\xBD\xED\xB2\x96' mark='\xEF\xBF\xBD'
     local marks=$mark$mark$mark$mark stays='a\xC8\x85\xE2\x82\xAC' invalid='cesu8: invalid input'
 
-    # Nothing is read, and so nothing is asked for; but a Java string has a count of nothing too.
+    # The input is empty, so nothing is allocated, except for the count of a Java string.
     for flavor in cesu8 mutf8; do
         for command in encode decode decode-strict lossy lossy-strict; do
             row "$command" "$flavor" 0 '' ''
@@ -100,7 +100,7 @@ rows() {
     row java-write mutf8 1 '' '\x00\x00'
     refused_row java-read mutf8 0 '' 'cesu8: input is truncated'
 
-    # The answer borrows: the input, or a constant.
+    # The output is borrowed: the input, or a constant.
     for flavor in cesu8 mutf8; do
         for command in encode decode decode-strict lossy lossy-strict; do
             row "$command" "$flavor" 1 "$stays" "$stays"
@@ -119,7 +119,7 @@ rows() {
     row java-read mutf8 1 '\x00\x00' ''
     row java-read mutf8 1 "\\x00\\x06$stays" "$stays"
 
-    # The answer is built.
+    # The output is built.
     for flavor in cesu8 mutf8; do
         row encode "$flavor" 2 "a$heart" "a$pair"
         for command in decode decode-strict lossy lossy-strict; do
@@ -137,7 +137,7 @@ rows() {
     row java-write mutf8 2 'a\x00' '\x00\x03a\xC0\x80'
     row java-read mutf8 2 '\x00\x03a\xC0\x80' 'a\x00'
 
-    # The input is refused: before a request for the answer, or after it.
+    # The input is rejected: before the allocation for the output, or after it.
     for flavor in cesu8 mutf8; do
         refused_row encode "$flavor" 1 'a\xFF' 'cesu8: input is not UTF-8'
         refused_row needs "$flavor" 1 'a\xFF' 'cesu8: input is not UTF-8'
@@ -154,8 +154,8 @@ rows() {
     refused_row java-read mutf8 2 '\x00\x03a\xC0\x80b' 'cesu8: bytes after the string' 3
 }
 
-# Writes an input of so many bytes, of one part again and again and then of letters, and the answer to
-# it, which has another part for each: `keep_long COUNT PART ANSWER`.
+# Writes an input of COUNT bytes that repeats a part and ends in letters, and its output, which has
+# ANSWER for each part: `keep_long COUNT PART ANSWER`.
 keep_long() {
     local length
     measure "$2"
@@ -163,8 +163,8 @@ keep_long() {
     { repeated $(($1 / length)) "$3" && repeated $(($1 % length)) a; } >"$scratch/wanted"
 }
 
-# Writes an input of so many bytes for each pair of words but those of Java strings, with an answer
-# that is built where one can be, and hands it on: `on_each COUNT WHAT`, as `WHAT COMMAND FLAVOR`.
+# For each command and flavor except those of Java strings, writes an input of COUNT bytes, whose output
+# is built if possible, and calls `WHAT COMMAND FLAVOR`: `on_each COUNT WHAT`.
 on_each() {
     local heart='\xF0\x9F\x92\x96' pair='\xED\xA0\xBD\xED\xB2\x96' mark='\xEF\xBF\xBD' command
     keep_long "$1" "$heart" "$pair"
@@ -192,14 +192,15 @@ on_each() {
     "$2" lossy-strict mutf8
 }
 
-# Writes a Java string of so many bytes of MUTF-8, an even number below 65,536, and its text.
+# Writes a Java string with this many bytes of MUTF-8, an even number below 65,536, and its text.
 keep_java_string() {
     printf '%b' "$(printf '\\x%02X\\x%02X' $(($1 / 256)) $(($1 % 256)))" >"$scratch/form"
     repeated $(($1 / 2)) '\xC0\x80' >>"$scratch/form"
     repeated $(($1 / 2)) '\x00' >"$scratch/text"
 }
 
-# The two commands of Java strings, on the longest string and its text: `on_java_strings WHAT`.
+# Calls WHAT for the two commands of Java strings, with the longest string and its text:
+# `on_java_strings WHAT`.
 on_java_strings() {
     keep_java_string 65534
     cp "$scratch/text" "$scratch/input"
@@ -214,7 +215,7 @@ long_row() {
     refuse_in_turn "$1 $2 on a long input" "$1" "$2" 0 ''
 }
 
-# Strict decoding of long input that is refused: UTF-8 that no encoding has, and halves of pairs.
+# Strict decoding of long input that is rejected: UTF-8 of four bytes, and halves of surrogate pairs.
 refused_long_rows() {
     local part
     for part in $'\xF0\x9F\x92\x96' $'\xED\xA0\xBDa'; do
@@ -227,7 +228,7 @@ refused_long_rows() {
     done
 }
 
-# Runs a command that refuses the input, and compares how many bytes it requests: `expect_size COUNT WORD..`.
+# Runs a command that rejects the input, and tests how many bytes it allocates: `expect_size COUNT WORD..`.
 expect_size() {
     local count=$1
     shift
@@ -236,8 +237,8 @@ expect_size() {
         [ "$status $(<"$scratch/error") ${sizes[-1]}" = "1 cesu8: invalid input $count" ]
 }
 
-# Letters with damage at the front, in the middle and at the end: what begins no character in both
-# encodings, half of a pair, and for the strict commands a character that is UTF-8 alone.
+# Letters with damage at the start, in the middle and at the end: a byte that begins no character in
+# either encoding, half of a pair, and for the strict commands a character of four bytes in UTF-8.
 refused_sizes() {
     local count at part length
     for count in 4 5 16 17 24 64 65 100 256 1024 4096 65534; do
@@ -268,7 +269,7 @@ refuse_requests() {
         wrong 'tests/requests.c does not build'
         return
     fi
-    # Words that ask for nothing are told after the requests for the arguments, and before any other.
+    # Arguments that are no command are reported after the allocations for the arguments, before any other.
     : >"$scratch/input"
     run_refusing 0 encode utf9
     arguments=$requests
@@ -282,9 +283,9 @@ refuse_requests() {
     on_java_strings long_row
 }
 
-# Runs the program on $scratch/input with at most so many KiB of memory: `run_within KIB WORD..`. The
-# C library takes 128 KiB more than it is asked for, unless it is told so, and a Java string and its
-# text fit into that.
+# Runs the program on $scratch/input with at most this many KiB of memory: `run_within KIB WORD..`. By
+# default the C library reserves 128 KiB more than it needs, into which a Java string and its text would
+# fit, so a setting turns this off.
 run_within() {
     local kib=$1
     shift
@@ -293,8 +294,8 @@ run_within() {
     status=$?
 }
 
-# Keeps in least how many KiB the program needs to see its words, in pages of 4 KiB. These are wrong
-# ones, longer than any pair.
+# Sets `least` to the KiB that the program needs to read its arguments, in pages of 4 KiB. The arguments
+# are wrong, and longer than any command and flavor.
 find_least() {
     : >"$scratch/input"
     for ((least = 1024; least < 65536; least += 4)); do
@@ -304,8 +305,8 @@ find_least() {
     wrong 'the words are not seen in 64 MiB of memory'
 }
 
-# Runs with more and more memory, until it was enough twice: `grow STEP COMMAND FLAVOR STATUS LINE`,
-# with what the run has to end with then.
+# Runs with more and more memory, until it was enough twice: `grow STEP COMMAND FLAVOR STATUS LINE`. A run
+# with enough memory must end with this status and line.
 grow() {
     local kib answered=0 refused=0
     for ((kib = least; answered < 2 && kib < least + 131072; kib += $1)); do
@@ -330,8 +331,8 @@ grow_by_pages() {
     grow 4 "$1" "$2" 0 ''
 }
 
-# No Java string has 10 MB, so these are refused once there is memory to read them; the longest one
-# is written and read.
+# No Java string has 10 MB, so such input is rejected as soon as there is memory to read it. The longest
+# string is written and read.
 limit_java_strings() {
     on_java_strings grow_by_pages
     cp "$scratch/nothing" "$scratch/wanted"

@@ -7,16 +7,10 @@ use Rattle.std.proofs.lemmas.Bool.Decides.{nat_tests}
 use Rattle.simd_cesu8.specs.Text.{IsScalarValue}
 use Rattle.simd_cesu8.specs.Encoding.{Flavor, Cesu8, Mutf8, short_form, encoding}
 use Rattle.cesu8_stream.specs.Written.{IsWritten, Begins, BeginsNone, MayBegin}
+use Rattle.cesu8_stream.specs.Completions.{pair_bytes, null_bytes, IsCompletedBy}
 use Rattle.cesu8_stream.proofs.Joined.{Appends}
 use Rattle.cesu8_stream.proofs.First.{text_begins, begins_longer}
 use Rattle.cesu8_stream.proofs.Shapes.{IsTwo, IsThree, IsPair, Shape, one, two, three, pair, shape, encoding_one, encoding_two, encoding_three, encoding_pair}
-
--- The fixed characters: U+10000 and U+0000, and in UTF-8 U+100000 and U+20000.
-abbrev pub pair_bytes : List ℕ
-pair_bytes = 0xED ∷ 0xA0 ∷ 0x80 ∷ 0xED ∷ 0xB0 ∷ 0x80 ∷ []
-
-abbrev pub null_bytes : List ℕ
-null_bytes = 0xC0 ∷ 0x80 ∷ 0 ∷ 0 ∷ 0 ∷ 0 ∷ []
 
 -- Some character begins the bytes.
 abbrev pub BeginsSome : (List ℕ → List ℕ) → List ℕ → Type 0
@@ -49,20 +43,13 @@ pub cons_parts : (a b : ℕ) (xs ys : List ℕ) → a ∷ xs ≡ b ∷ ys → (a
 cons_parts a b xs ys same = (cc, cc)
 
 -- What is known of a part of a character: it has a byte, and no character begins it.
-record IsPart (f : Flavor) (bytes : List ℕ) : Type 0 where
-  some : 0 < length bytes
-  none_begins : BeginsNone (encoding f) bytes
-
--- The part with the rest of U+10000, or with that of U+0000.
-abbrev with_pair : List ℕ → List ℕ
-with_pair bytes = bytes ++ drop (length bytes) pair_bytes
-
-abbrev with_null : List ℕ → List ℕ
-with_null bytes = bytes ++ drop (length bytes) null_bytes
+pub record IsPart (write : List ℕ → List ℕ) (bytes : List ℕ) : Type 0 where
+  pub some : 0 < length bytes
+  pub none_begins : BeginsNone write bytes
 
 -- A part of a character of two bytes is its first byte.
-two_completes : (f : Flavor) (c x y : ℕ) → IsScalarValue c → IsTwo c x y → (bytes more rest : List ℕ) → IsPart f bytes →
-    bytes ++ more ≡ (0xC0 + x) ∷ (0x80 + y) ∷ rest → BeginsSome (encoding f) (with_pair bytes)
+two_completes : (f : Flavor) (c x y : ℕ) → IsScalarValue c → IsTwo c x y → (bytes more rest : List ℕ) → IsPart (encoding f) bytes →
+    bytes ++ more ≡ (0xC0 + x) ∷ (0x80 + y) ∷ rest → IsCompletedBy (encoding f) pair_bytes bytes
 two_completes f c x y scalar digits [] more rest part same = absurd (let h = part.some in omega arith)
 two_completes f c x y scalar digits (a ∷ []) more rest part same =
     rw ((cons_parts a (0xC0 + x) more ((0x80 + y) ∷ rest) same).0)
@@ -77,8 +64,8 @@ two_completes f c x y scalar digits (a ∷ b ∷ bytes) more rest part same =
     }))
 
 -- One of three bytes is its first one or two bytes.
-three_completes : (f : Flavor) (c x y z : ℕ) → IsScalarValue c → IsThree c x y z → (bytes more rest : List ℕ) → IsPart f bytes →
-    bytes ++ more ≡ (0xE0 + x) ∷ (0x80 + y) ∷ (0x80 + z) ∷ rest → BeginsSome (encoding f) (with_pair bytes)
+three_completes : (f : Flavor) (c x y z : ℕ) → IsScalarValue c → IsThree c x y z → (bytes more rest : List ℕ) → IsPart (encoding f) bytes →
+    bytes ++ more ≡ (0xE0 + x) ∷ (0x80 + y) ∷ (0x80 + z) ∷ rest → IsCompletedBy (encoding f) pair_bytes bytes
 three_completes f c x y z scalar digits [] more rest part same = absurd (let h = part.some in omega arith)
 three_completes f c x y z scalar digits (a ∷ []) more rest part same =
     rw ((cons_parts a (0xE0 + x) more ((0x80 + y) ∷ (0x80 + z) ∷ rest) same).0) (by (cases_eq x 0x0D))
@@ -109,9 +96,9 @@ three_completes f c x y z scalar digits (a ∷ b ∷ d ∷ bytes) more rest part
     }))
 
 -- One of a surrogate pair is its first one to five bytes.
-pair_completes : (f : Flavor) (c w x y z : ℕ) → IsScalarValue c → IsPair c w x y z → (bytes more rest : List ℕ) → IsPart f bytes →
+pair_completes : (f : Flavor) (c w x y z : ℕ) → IsScalarValue c → IsPair c w x y z → (bytes more rest : List ℕ) → IsPart (encoding f) bytes →
     bytes ++ more ≡ 0xED ∷ (0xA0 + w) ∷ (0x80 + x) ∷ 0xED ∷ (0xB0 + y) ∷ (0x80 + z) ∷ rest →
-    BeginsSome (encoding f) (with_pair bytes)
+    IsCompletedBy (encoding f) pair_bytes bytes
 pair_completes f c w x y z scalar digits [] more rest part same = absurd (let h = part.some in omega arith)
 pair_completes f c w x y z scalar digits (a1 ∷ []) more rest part same =
     let e1 = cons_parts a1 0xED _ _ same in
@@ -163,8 +150,8 @@ null_begins rest = (
 )
 
 -- A part of a character below 80 (hexadecimal) is C0 in MUTF-8.
-one_completes : (f : Flavor) (c : ℕ) → IsScalarValue c → c < 0x80 → (bytes more rest : List ℕ) → IsPart f bytes →
-    bytes ++ more ≡ short_form f c ++ rest → (f ≡ Mutf8) × BeginsSome (encoding f) (with_null bytes)
+one_completes : (f : Flavor) (c : ℕ) → IsScalarValue c → c < 0x80 → (bytes more rest : List ℕ) → IsPart (encoding f) bytes →
+    bytes ++ more ≡ short_form f c ++ rest → IsCompletedBy (encoding f) null_bytes bytes
 one_completes f c scalar low [] more rest part same = absurd (let h = part.some in omega arith)
 one_completes Cesu8 c scalar low (a ∷ bytes) more rest part same =
     let first = cons_parts a c (bytes ++ more) rest same in
@@ -175,11 +162,11 @@ one_completes Cesu8 c scalar low (a ∷ bytes) more rest part same =
     }))
 one_completes Mutf8 c scalar low (a ∷ bytes) more rest part same = by bytes part (cases_eq c 0) same
   where
-    by : (bytes : List ℕ) → IsPart Mutf8 (a ∷ bytes) → (c ≡ 0) ⊎ (c ≡ 0 → ⊥) → (a ∷ bytes) ++ more ≡ short_form Mutf8 c ++ rest →
-        (Mutf8 ≡ Mutf8) × BeginsSome (encoding Mutf8) (with_null (a ∷ bytes))
+    by : (bytes : List ℕ) → IsPart (encoding Mutf8) (a ∷ bytes) → (c ≡ 0) ⊎ (c ≡ 0 → ⊥) → (a ∷ bytes) ++ more ≡ short_form Mutf8 c ++ rest →
+        IsCompletedBy (encoding Mutf8) null_bytes (a ∷ bytes)
     by [] part (inl null) same =
         let first = cons_parts a 0xC0 more (0x80 ∷ rest) (rw null at same) in
-        (refl, rw first.0 (null_begins (0 ∷ 0 ∷ 0 ∷ 0 ∷ [])))
+        rw first.0 (null_begins (0 ∷ 0 ∷ 0 ∷ 0 ∷ []))
     by (b ∷ bytes) part (inl null) same =
         let first = cons_parts a 0xC0 (b ∷ bytes ++ more) (0x80 ∷ rest) (rw null at same) in
         let second = cons_parts b 0x80 (bytes ++ more) rest first.1 in
@@ -197,21 +184,19 @@ one_completes Mutf8 c scalar low (a ∷ bytes) more rest part same = by bytes pa
           bytes_are = rw (encoding_one Mutf8 c low, short, first.0) refl;
         }))
 
--- A part of a character is completed by U+10000, and in MUTF-8 by that or by U+0000.
+-- A part of a character is completed by U+10000, or by U+0000 of MUTF-8.
 pub part_completes : (f : Flavor) (bytes more : List ℕ) (c : ℕ) → 0 < length bytes → BeginsNone (encoding f) bytes →
     Begins (encoding f) (bytes ++ more) c →
-    BeginsSome (encoding f) (bytes ++ drop (length bytes) pair_bytes)
-    ⊎ ((f ≡ Mutf8) × BeginsSome (encoding f) (bytes ++ drop (length bytes) null_bytes))
+    IsCompletedBy (encoding f) pair_bytes bytes ⊎ IsCompletedBy (encoding f) null_bytes bytes
 part_completes f bytes more c some none begins = by (shape c begins.scalar)
   where
-    part : IsPart f bytes
+    part : IsPart (encoding f) bytes
     part = record { some = some; none_begins = none }
 
     along : (e : List ℕ) → encoding f (c ∷ []) ≡ e → bytes ++ more ≡ e ++ begins.rest
     along e is = begins.bytes_are ∙ ap (λ bs. bs ++ begins.rest) is
 
-    by : Shape c →
-        BeginsSome (encoding f) (with_pair bytes) ⊎ ((f ≡ Mutf8) × BeginsSome (encoding f) (with_null bytes))
+    by : Shape c → IsCompletedBy (encoding f) pair_bytes bytes ⊎ IsCompletedBy (encoding f) null_bytes bytes
     by (one low) = inr (one_completes f c begins.scalar low bytes more begins.rest part (along _ (encoding_one f c low)))
     by (two x y digits) =
         inl (two_completes f c x y begins.scalar digits bytes more begins.rest part (along _ (encoding_two f c x y digits)))

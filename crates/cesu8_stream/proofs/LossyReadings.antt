@@ -1,8 +1,9 @@
 -- What the loop of the lossy decoder has read, step by step.
-use Rattle.std.proofs.Common.{◌≡◌, ℕ, ◌+◌, ◌-◌, ◌<◌, ◌≤◌, ◌⊎◌, ◌↔◌, List, [], ◌∷◌, ◌++◌, Bool, true, false, refl, sym, ap, ◌∙◌, subst, inl, inr, arith, length, take, drop, append-nil, append_assoc, length-append}
+use borrow.Rule.Slice.PartMut.{put_mid}
+use Rattle.std.proofs.Common.{◌≡◌, ℕ, ◌+◌, ◌-◌, ◌<◌, ◌≤◌, ◌⊎◌, ◌↔◌, List, [], ◌∷◌, ◌++◌, Bool, true, false, refl, sym, ap, ◌∙◌, subst, inl, inr, arith, length, take, drop, append-nil, append_assoc, length-append, length-drop}
 use Rattle.std.proofs.lemmas.Grind.{common_steps}
 use Rattle.std.proofs.lemmas.Bool.{cases_lt}
-use Rattle.std.proofs.lemmas.List.{take-append-drop}
+use Rattle.std.proofs.lemmas.List.{take_rest, take-append-drop}
 use Rattle.simd_cesu8.specs.Text.{IsText, utf8_of, utf8}
 use Rattle.simd_cesu8.specs.Encoding.{Flavor, encoding}
 use Rattle.simd_cesu8.specs.Reading.{reading}
@@ -16,6 +17,7 @@ use Rattle.cesu8_stream.specs.declared.progress.State.{State}
 use Rattle.cesu8_stream.specs.declared.progress.State.TheVariants.{InputEmpty, Incomplete, OutputFull, Malformed}
 use Rattle.cesu8_stream.proofs.Characters.{utf8_few, encoding_empty}
 use Rattle.cesu8_stream.proofs.Joined.{joined_text, joined_front, drop_more}
+use Rattle.cesu8_stream.proofs.Pieces.{to_end}
 use Rattle.cesu8_stream.proofs.First.{begins_longer}
 use Rattle.cesu8_stream.proofs.Utf8.{utf8_appends}
 
@@ -45,18 +47,19 @@ damage_read split places f byte more none =
     })))
     ∙ ap (λ bs. bs ++ reading f more) (sym mark)
 
--- What is known of a lossy reading.
-pub record IsReading (from reading : List ℕ → List ℕ) : Type 0 where
+-- What is known of a lossy reading, which is written as UTF-8.
+pub record IsReading (from to reading : List ℕ → List ℕ) : Type 0 where
+  pub to_utf8 : (text : List ℕ) → to text ≡ utf8 text
   pub text : (text more : List ℕ) → IsText text → reading (from text ++ more) ≡ text ++ reading more
   pub damage : (byte : ℕ) (more : List ℕ) → BeginsNone from (byte ∷ more) → reading (byte ∷ more) ≡ 0xFFFD ∷ reading more
 
 -- What was converted was read.
-pub converted_on : (from reading : List ℕ → List ℕ) (is_last : Bool) (bytes old new : List ℕ) (n w : ℕ) →
-    IsReading from reading → Converts from utf8 bytes n w old new → ReadsOn reading is_last bytes n w old new
-converted_on from reading is_last bytes old new n w facts moves = (
+pub converted_on : (from to reading : List ℕ → List ℕ) (is_last : Bool) (bytes old new : List ℕ) (n w : ℕ) →
+    IsReading from to reading → Converts from to bytes n w old new → ReadsOn reading is_last bytes n w old new
+converted_on from to reading is_last bytes old new n w facts moves = (
   moves.0,
   moves.1.0,
-  moves.2,
+  rw (facts.to_utf8 moves.0) at moves.2,
   (λ more may.
       let whole : bytes ++ more ≡ from moves.0 ++ (drop n bytes ++ more) =
       ap (λ bs. bs ++ more) (sym (take-append-drop n bytes)) ∙ append_assoc (take n bytes) (drop n bytes) more
@@ -84,11 +87,11 @@ unfolding utf8_of
 mark = refl
 
 -- One byte is replaced.
-pub replaced_on : (from reading : List ℕ → List ℕ) (is_last : Bool) (bytes old new : List ℕ) → IsReading from reading →
+pub replaced_on : (from to reading : List ℕ → List ℕ) (is_last : Bool) (bytes old new : List ℕ) → IsReading from to reading →
     IsReplaced from is_last bytes → ((more : List ℕ) → MayFollow is_last more → BeginsNone from (bytes ++ more)) →
     new ≡ 0xEF ∷ 0xBF ∷ 0xBD ∷ drop 3 old → ReadsOn reading is_last bytes 1 3 old new
-replaced_on from reading is_last [] old new facts replaced never written = absurd (replaced.nonempty refl)
-replaced_on from reading is_last (byte ∷ bytes) old new facts replaced never written = (
+replaced_on from to reading is_last [] old new facts replaced never written = absurd (replaced.nonempty refl)
+replaced_on from to reading is_last (byte ∷ bytes) old new facts replaced never written = (
   0xFFFD ∷ [],
   (inr (omega arith, omega arith), tt),
   (rw mark refl, rw mark written),
@@ -193,15 +196,12 @@ left_by from to widest bytes old buf new m w found to_utf8 same piece =
 
 -- What was read after such a call.
 pub reads_by : (from to reading : List ℕ → List ℕ) (widest : ℕ) (is_last : Bool) (bytes old buf new : List ℕ) (m w : ℕ)
-    (found : Progress) → IsReading from reading → ((t : List ℕ) → to t ≡ utf8 t) →
-    ReadsOn reading is_last bytes m w old buf → ConvertsPiece from to widest (drop m bytes) found (drop w buf) new →
+    (found : Progress) → IsReading from to reading → ReadsOn reading is_last bytes m w old buf →
+    ConvertsPiece from to widest (drop m bytes) found (drop w buf) new →
     ReadsOn reading is_last bytes (m + found.read) (w + found.written) old (take w buf ++ new)
-reads_by from to reading widest is_last bytes old buf new m w found facts to_utf8 reads piece =
-    let text = piece.text in
-    let converts : Converts from utf8 (drop m bytes) found.read found.written (drop w buf) new =
-    (text.0, text.1, rw (to_utf8 text.0) at text.2) in
+reads_by from to reading widest is_last bytes old buf new m w found facts reads piece =
     read_on reading is_last bytes old buf new m w found.read found.written reads
-    (converted_on from reading is_last (drop m bytes) (drop w buf) new found.read found.written facts converts)
+    (converted_on from to reading is_last (drop m bytes) (drop w buf) new found.read found.written facts piece.text)
 
 -- What reads nothing writes nothing.
 nothing_read : (reading : List ℕ → List ℕ) (is_last : Bool) (bytes old new : List ℕ) (n w : ℕ) → n ≡ 0 →
@@ -235,18 +235,48 @@ progress from reading is_last bytes old new n w reads longer room = by (cases_lt
         let long = replaced.1 in
         absurd (omega arith)
 
+-- A write from one place to the end keeps the length.
+pub same_length : (w : ℕ) (buf new old : List ℕ) → length new ≡ length (drop w buf) → length buf ≡ length old →
+    length (take w buf ++ new) ≡ length old
+same_length w buf new old long same = grind (arith, common_steps)
+
+-- How far a turn of the loop came by a strict call on the rest: what was read, and what the call left.
+pub record IsFound (from reading : List ℕ → List ℕ) (is_last : Bool) (bytes old new : List ℕ) (n w : ℕ) (state : State) : Type 0 where
+  pub within : n ≤ length bytes
+  pub reads : ReadsOn reading is_last bytes n w old new
+  pub left : IsLeft from (drop n bytes) (length old - w) state
+  pub few : state ≡ Incomplete → length bytes ≤ n + 5
+  pub same : length new ≡ length old
+
+pub found_by : (from to reading : List ℕ → List ℕ) (widest : ℕ) (is_last : Bool) (bytes old buf new : List ℕ) (m w : ℕ)
+    (found : Progress) → IsReading from to reading → m ≤ length bytes → length buf ≡ length old →
+    ReadsOn reading is_last bytes m w old buf → length new ≡ length (take (length buf - w) (drop w buf)) →
+    ConvertsPiece from to widest (take (length bytes - m) (drop m bytes)) found (take (length buf - w) (drop w buf)) new →
+    IsFound from reading is_last bytes old (put_mid w (length buf - w) buf new) (m + found.read) (w + found.written) found.state
+found_by from to reading widest is_last bytes old buf new m w found facts within same reads long call =
+    let piece : ConvertsPiece from to widest (drop m bytes) found (drop w buf) new = rw (take_rest, take_rest) at call in
+    let inside = piece.within in
+    let rest : length (drop m bytes) ≡ length bytes - m = length-drop m bytes in
+    rw (to_end w buf new) (record {
+      within = omega arith;
+      reads = reads_by from to reading widest is_last bytes old buf new m w found facts reads piece;
+      left = left_by from to widest bytes old buf new m w found facts.to_utf8 same piece;
+      few = (λ s. let few = piece.few_left s in omega arith);
+      same = same_length w buf new old (rw take_rest at long) same;
+    })
+
 -- The call returns what the strict call on the rest did.
 pub stopped : (from reading : List ℕ → List ℕ) (is_last : Bool) (bytes old new : List ℕ) (n w : ℕ) (state : State) →
-    n ≤ length bytes → ReadsOn reading is_last bytes n w old new →
-    IsLeft from (drop n bytes) (length old - w) state → (state ≡ Incomplete → length bytes ≤ n + 5) →
-    is_damage state is_last ≡ false →
+    IsFound from reading is_last bytes old new n w state → is_damage state is_last ≡ false →
     DecodesPiece from reading is_last bytes (record { read = n; written = w; state = state }) old new
-stopped from reading is_last bytes old new n w state within reads left few kept =
+stopped from reading is_last bytes old new n w state found kept =
     let rest = drop n bytes in
     let room = length old - w in
+    let left = found.left in
+    let within = found.within in
     let full = kept_full from is_last rest room state left kept in
     record {
-      text = reads;
+      text = found.reads;
       within = within;
       input_empty = (
         (λ s. let none = ap length (left.input_empty.0 s) in grind (arith, common_steps)),
@@ -255,22 +285,29 @@ stopped from reading is_last bytes old new n w state within reads left few kept 
       incomplete = kept_incomplete from is_last rest room state left kept;
       output_full = full;
       malformed = kept_malformed is_last state kept;
-      few_left = few;
-      progress = (λ space s. progress from reading is_last bytes old new n w reads (full.0 s) space);
+      few_left = found.few;
+      progress = (λ space s. progress from reading is_last bytes old new n w found.reads (full.0 s) space);
     }
 
--- U+FFFD does not fit.
-pub filled : (from reading : List ℕ → List ℕ) (is_last : Bool) (bytes old new : List ℕ) (n w : ℕ) (state : State) →
-    n ≤ length bytes → ReadsOn reading is_last bytes n w old new →
-    IsLeft from (drop n bytes) (length old - w) state → is_damage state is_last ≡ true → length old - w < 3 →
-    DecodesPiece from reading is_last bytes (record { read = n; written = w; state = OutputFull }) old new
-filled from reading is_last bytes old new n w state within reads left damage few =
+-- U+FFFD does not fit: what follows in the buffer is unchanged.
+pub filled : (from reading : List ℕ → List ℕ) (is_last : Bool) (bytes old buf after : List ℕ) (n w : ℕ) (state : State) →
+    IsFound from reading is_last bytes old buf n w state → is_damage state is_last ≡ true →
+    length (take (length buf - w) (drop w buf)) < 3 → after ≡ take (length buf - w) (drop w buf) →
+    DecodesPiece from reading is_last bytes (record { read = n; written = w; state = OutputFull }) old (put_mid w (length buf - w) buf after)
+filled from reading is_last bytes old buf after n w state found damage short unchanged =
     let rest = drop n bytes in
     let room = length old - w in
-    let replaced = is_replaced from is_last rest room state left damage in
-    let longer : NextIsLonger from is_last rest room = inr (replaced, few) in
-    record {
-      text = reads;
+    let within = found.within in
+    let replaced = is_replaced from is_last rest room state found.left damage in
+    let few : length (drop w buf) < 3 = rw take_rest at short in
+    let same = found.same in
+    let left : length (drop w buf) ≡ length buf - w = length-drop w buf in
+    let longer : NextIsLonger from is_last rest room = inr (replaced, omega arith) in
+    let end : after ≡ drop w buf = rw take_rest at unchanged in
+    let is : put_mid w (length buf - w) buf after ≡ buf =
+    to_end w buf after ∙ ap (λ bs. take w buf ++ bs) end ∙ take-append-drop w buf in
+    rw is (record {
+      text = found.reads;
       within = within;
       input_empty = (
         (λ s. absurd (let e = s in cc)),
@@ -280,8 +317,8 @@ filled from reading is_last bytes old new n w state within reads left damage few
       output_full = ((λ _. longer), (λ _. refl));
       malformed = (λ s. absurd (let e = s in cc));
       few_left = (λ s. absurd (let e = s in cc));
-      progress = (λ space s. progress from reading is_last bytes old new n w reads longer space);
-    }
+      progress = (λ space s. progress from reading is_last bytes old buf n w found.reads longer space);
+    })
 
 -- What is replaced has a byte.
 pub one_left : (from : List ℕ → List ℕ) (is_last : Bool) (bytes : List ℕ) (n : ℕ) → IsReplaced from is_last (drop n bytes) →
@@ -292,7 +329,17 @@ one_left from is_last bytes n replaced = by (cases_lt n (length bytes))
     by (inl less) = omega arith
     by (inr all) = absurd (replaced.nonempty (grind (arith, common_steps)))
 
--- A write from one place to the end keeps the length.
-pub same_length : (w : ℕ) (buf new old : List ℕ) → length new ≡ length (drop w buf) → length buf ≡ length old →
-    length (take w buf ++ new) ≡ length old
-same_length w buf new old long same = grind (arith, common_steps)
+-- U+FFFD was written for the byte that was left.
+pub replaces : (from to reading : List ℕ → List ℕ) (is_last : Bool) (bytes old buf after : List ℕ) (n w : ℕ) (state : State) →
+    IsReading from to reading → IsFound from reading is_last bytes old buf n w state → is_damage state is_last ≡ true →
+    after ≡ 0xEF ∷ 0xBF ∷ 0xBD ∷ drop 3 (take (length buf - w) (drop w buf)) →
+    (n + 1 ≤ length bytes) × ReadsOn reading is_last bytes (n + 1) (w + 3) old (put_mid w (length buf - w) buf after)
+replaces from to reading is_last bytes old buf after n w state facts found damage written =
+    let rest = drop n bytes in
+    let room = length old - w in
+    let replaced = is_replaced from is_last rest room state found.left damage in
+    let never = never_follows from is_last rest room state found.left damage in
+    let step = replaced_on from to reading is_last rest (drop w buf) after facts replaced never (rw take_rest at written) in (
+      one_left from is_last bytes n replaced,
+      rw (to_end w buf after) (read_on reading is_last bytes old buf after n w 1 3 found.reads step),
+    )

@@ -1,27 +1,15 @@
 -- A part of a character of UTF-8 is completed by the bytes of a fixed one.
-use Rattle.std.proofs.Common.{◌≡◌, ℕ, ◌+◌, ◌*◌, ◌/◌, ◌%◌, ◌<◌, ◌≤◌, ◌⊎◌, List, [], ◌∷◌, ◌++◌, refl, ap, ◌∙◌, inl, inr, arith, length, drop}
+use Rattle.std.proofs.Common.{◌≡◌, ℕ, ◌+◌, ◌*◌, ◌/◌, ◌%◌, ◌<◌, ◌≤◌, ◌⊎◌, List, [], ◌∷◌, ◌++◌, refl, ap, ◌∙◌, inl, inr, arith, length}
 use Rattle.std.proofs.lemmas.Bool.{cases_eq}
 use Rattle.simd_cesu8.specs.Text.{IsScalarValue, utf8}
 use Rattle.cesu8_stream.specs.Written.{Begins, BeginsNone}
+use Rattle.cesu8_stream.specs.Completions.{low_bytes, high_bytes, IsCompletedBy}
 use Rattle.cesu8_stream.proofs.Shapes.{IsTwo, IsThree, IsPair, IsFour, Shape, one, two, three, pair, shape, utf8_one, utf8_two, utf8_three, utf8_four}
-use Rattle.cesu8_stream.proofs.Completions.{BeginsSome, cons_parts}
-
--- The fixed characters: U+100000, whose second byte is low, and U+20000, whose second byte is high.
-abbrev pub low_bytes : List ℕ
-low_bytes = 0xF4 ∷ 0x80 ∷ 0x80 ∷ 0x80 ∷ 0 ∷ 0 ∷ []
-
-abbrev pub high_bytes : List ℕ
-high_bytes = 0xF0 ∷ 0xA0 ∷ 0x80 ∷ 0x80 ∷ 0 ∷ 0 ∷ []
-
--- What is known of a part of a character: it has a byte, and no character begins it.
-record IsPart (bytes : List ℕ) : Type 0 where
-  some : 0 < length bytes
-  none_begins : BeginsNone utf8 bytes
+use Rattle.cesu8_stream.proofs.Completions.{BeginsSome, IsPart, cons_parts}
 
 -- The part with the rest of either character begins with a character.
 abbrev Completes : List ℕ → Type 0
-Completes bytes = BeginsSome utf8 (bytes ++ drop (length bytes) low_bytes)
-    ⊎ BeginsSome utf8 (bytes ++ drop (length bytes) high_bytes)
+Completes bytes = IsCompletedBy utf8 low_bytes bytes ⊎ IsCompletedBy utf8 high_bytes bytes
 
 -- A character, from its bytes.
 two_begins : (x y : ℕ) (rest : List ℕ) → 2 ≤ x → x < 0x20 → y < 0x40 →
@@ -47,7 +35,7 @@ four_begins w x y z rest low high first second last =
     (c, record { scalar = inr (omega arith, omega arith); rest = rest; bytes_are = rw (utf8_four c w x y z digits) refl })
 
 -- No part of a character of one byte is missing.
-one_completes : (c : ℕ) → IsScalarValue c → c < 0x80 → (bytes more rest : List ℕ) → IsPart bytes →
+one_completes : (c : ℕ) → IsScalarValue c → c < 0x80 → (bytes more rest : List ℕ) → IsPart utf8 bytes →
     bytes ++ more ≡ c ∷ rest → Completes bytes
 one_completes c scalar low [] more rest part same = absurd (let h = part.some in omega arith)
 one_completes c scalar low (a ∷ bytes) more rest part same =
@@ -58,7 +46,7 @@ one_completes c scalar low (a ∷ bytes) more rest part same =
     }))
 
 -- A part of a character of two bytes is its first byte.
-two_completes : (c x y : ℕ) → IsScalarValue c → IsTwo c x y → (bytes more rest : List ℕ) → IsPart bytes →
+two_completes : (c x y : ℕ) → IsScalarValue c → IsTwo c x y → (bytes more rest : List ℕ) → IsPart utf8 bytes →
     bytes ++ more ≡ (0xC0 + x) ∷ (0x80 + y) ∷ rest → Completes bytes
 two_completes c x y scalar digits [] more rest part same = absurd (let h = part.some in omega arith)
 two_completes c x y scalar digits (a ∷ []) more rest part same =
@@ -74,7 +62,7 @@ two_completes c x y scalar digits (a ∷ b ∷ bytes) more rest part same =
     }))
 
 -- One of three bytes is its first one or two bytes.
-three_completes : (c x y z : ℕ) → IsScalarValue c → IsThree c x y z → (bytes more rest : List ℕ) → IsPart bytes →
+three_completes : (c x y z : ℕ) → IsScalarValue c → IsThree c x y z → (bytes more rest : List ℕ) → IsPart utf8 bytes →
     bytes ++ more ≡ (0xE0 + x) ∷ (0x80 + y) ∷ (0x80 + z) ∷ rest → Completes bytes
 three_completes c x y z scalar digits [] more rest part same = absurd (let h = part.some in omega arith)
 three_completes c x y z scalar digits (a ∷ []) more rest part same = by (cases_eq x 0)
@@ -109,7 +97,7 @@ three_completes c x y z scalar digits (a ∷ b ∷ d ∷ bytes) more rest part s
     }))
 
 -- One of four bytes is its first one to three bytes.
-four_completes : (c w x y z : ℕ) → IsScalarValue c → IsFour c w x y z → (bytes more rest : List ℕ) → IsPart bytes →
+four_completes : (c w x y z : ℕ) → IsScalarValue c → IsFour c w x y z → (bytes more rest : List ℕ) → IsPart utf8 bytes →
     bytes ++ more ≡ (0xF0 + w) ∷ (0x80 + x) ∷ (0x80 + y) ∷ (0x80 + z) ∷ rest → Completes bytes
 four_completes c w x y z scalar digits [] more rest part same = absurd (let h = part.some in omega arith)
 four_completes c w x y z scalar digits (a ∷ []) more rest part same = by (cases_eq w 0)
@@ -164,11 +152,10 @@ four c w x y z digits = grind arith
 
 -- A part of a character is completed by U+100000 or by U+20000.
 pub utf8_part_completes : (bytes more : List ℕ) (c : ℕ) → 0 < length bytes → BeginsNone utf8 bytes →
-    Begins utf8 (bytes ++ more) c →
-    BeginsSome utf8 (bytes ++ drop (length bytes) low_bytes) ⊎ BeginsSome utf8 (bytes ++ drop (length bytes) high_bytes)
+    Begins utf8 (bytes ++ more) c → IsCompletedBy utf8 low_bytes bytes ⊎ IsCompletedBy utf8 high_bytes bytes
 utf8_part_completes bytes more c some none begins = by (shape c begins.scalar)
   where
-    part : IsPart bytes
+    part : IsPart utf8 bytes
     part = record { some = some; none_begins = none }
 
     along : (e : List ℕ) → utf8 (c ∷ []) ≡ e → bytes ++ more ≡ e ++ begins.rest

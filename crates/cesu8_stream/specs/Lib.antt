@@ -1,4 +1,5 @@
 pub mod Written
+pub mod Completions
 pub mod Streams
 pub mod Lossy
 pub mod Laws

@@ -1,16 +1,21 @@
-//! A conversion reads text in one way of writing and writes it in another. This file has the four
-//! of this crate: from CESU-8 and from MUTF-8 to UTF-8, and back. Each one calls `simd_cesu8`, or
-//! std for UTF-8, and `laws` says of it what the loops of `engine` need.
+//! A conversion reads text in one form and writes it in another. This file has both directions:
+//! from an encoding to UTF-8, and from UTF-8 to an encoding. `laws` states what the loops of
+//! `engine` need to know about the two forms.
 
-ghost use Rattle.std.specs.Prelude.{◌≡◌, ℕ, ◌+◌, ◌<◌, ◌≤◌, ◌↔◌, List, [], ◌∷◌, ◌++◌, length, take, drop, IsTrue, IfSome, IfNone, None};
+ghost use Rattle.std.specs.Prelude.{◌≡◌, ℕ, ◌+◌, ◌<◌, ◌≤◌, ◌⊎◌, List, [], ◌∷◌, ◌++◌, length, take, drop, IfSome, IfNone, None};
 ghost use Rattle.simd_cesu8.specs.Text.{utf8};
-ghost use Rattle.simd_cesu8.specs.Encoding.{Cesu8, Mutf8, encoding};
+ghost use Rattle.simd_cesu8.specs.Encoding.{encoding};
 ghost use Rattle.simd_cesu8.specs.Slices.{StandsAtFront};
-ghost use Rattle.cesu8_stream.specs.Written.{IsWritten, Begins, BeginsNone, MayBegin};
+ghost use Rattle.cesu8_stream.specs.Written.{IsWritten, Begins, BeginsNone};
+ghost use Rattle.cesu8_stream.specs.Completions.{pair_bytes, null_bytes, low_bytes, high_bytes, IsCompletedBy};
 
-use crate::completion::{NULL, PAIR, completed, utf8_may_begin};
+use crate::encodings::Encoding;
 use crate::text::{utf8_text, utf8_valid_up_to};
-use simd_cesu8::{laws, mutf8};
+use simd_cesu8::laws;
+use std::marker::PhantomData;
+
+/// The length of the longest encoded character: a surrogate pair.
+pub const LONGEST: usize = 6;
 
 /// A conversion from one way of writing text to another.
 pub trait Conversion {
@@ -22,6 +27,11 @@ pub trait Conversion {
 
     /// The most bytes that a character has in the output.
     ghost widest: { ℕ };
+
+    /// The bytes of the characters that `completions` returns.
+    ghost first_completion: { List ℕ };
+
+    ghost second_completion: { List ℕ };
 
     /// Returns how many bytes of input have no more bytes than this in the output.
     fn surely_fit(len: usize) -> usize
@@ -42,12 +52,12 @@ pub trait Conversion {
             → length buf.old < length (to text)) }
         ensures unchanged { result ≡ None → buf.new ≡ buf.old };
 
-    /// Returns whether some bytes after these one to five make a character, if none begins them.
-    fn may_begin(bytes: &[u8]) -> bool
-        requires nonempty { 0 < length bytes.now }
-        requires few { length bytes.now ≤ 5 }
-        requires none_begins { BeginsNone from bytes.now }
-        ensures { IsTrue result ↔ MayBegin from bytes.now };
+    /// Returns two characters of the input. Each truncated character becomes whole again if the
+    /// missing bytes are taken from one of these: which bytes may follow depends on the first two
+    /// bytes alone.
+    fn completions() -> ([u8; 6], [u8; 6])
+        ensures first { result.0 ≡ first_completion }
+        ensures second { result.1 ≡ second_completion };
 
     /// What is known of both ways of writing.
     fn laws()
@@ -59,21 +69,26 @@ pub trait Conversion {
         ensures at_most_six { (c : ℕ) → length (from (c ∷ [])) ≤ 6 }
         ensures widest { (c : ℕ) → length (to (c ∷ [])) ≤ widest }
         ensures one_begins { (bytes : List ℕ) (c d : ℕ) → Begins from bytes c
-            → Begins from bytes d → c ≡ d };
+            → Begins from bytes d → c ≡ d }
+        ensures completed { (bytes more : List ℕ) (c : ℕ) → 0 < length bytes
+            → BeginsNone from bytes → Begins from (bytes ++ more) c
+            → IsCompletedBy from first_completion bytes
+            ⊎ IsCompletedBy from second_completion bytes };
 }
 
-/// The length of the longest encoded character: a surrogate pair.
-pub const LONGEST: usize = 6;
+/// From an encoding to UTF-8.
+pub struct FromEncoding<E>(PhantomData<E>);
 
-/// From CESU-8 to UTF-8.
-pub struct FromCesu8;
-
-impl Conversion for FromCesu8 {
-    ghost from = { encoding Cesu8 };
+impl<E: Encoding> Conversion for FromEncoding<E> {
+    ghost from = { encoding E.flavor };
 
     ghost to = { utf8 };
 
     ghost widest = { 4 };
+
+    ghost first_completion = { pair_bytes };
+
+    ghost second_completion = { null_bytes };
 
     #[inline(always)]
     fn surely_fit(len: usize) -> usize {
@@ -82,17 +97,20 @@ impl Conversion for FromCesu8 {
 
     #[inline(always)]
     fn valid_up_to(bytes: &[u8]) -> usize {
-        simd_cesu8::valid_up_to(bytes)
+        E::valid_up_to(bytes)
     }
 
     #[inline(always)]
     fn write(bytes: &[u8], buf: &mut [u8]) -> Option<usize> {
-        simd_cesu8::decode_strict_to_slice(bytes, buf).ok()
+        E::decode(bytes, buf).ok()
     }
 
-    fn may_begin(bytes: &[u8]) -> bool {
-        laws::concat();
-        Self::valid_up_to(&completed(bytes, PAIR)) > 0
+    /// U+10000, and U+0000 in MUTF-8. In CESU-8 the second one completes nothing.
+    fn completions() -> ([u8; 6], [u8; 6]) {
+        (
+            [0xED, 0xA0, 0x80, 0xED, 0xB0, 0x80],
+            [0xC0, 0x80, 0, 0, 0, 0],
+        )
     }
 
     fn laws() {
@@ -101,52 +119,19 @@ impl Conversion for FromCesu8 {
     }
 }
 
-/// From MUTF-8 to UTF-8.
-pub struct FromMutf8;
+/// From UTF-8 to an encoding.
+pub struct ToEncoding<E>(PhantomData<E>);
 
-impl Conversion for FromMutf8 {
-    ghost from = { encoding Mutf8 };
-
-    ghost to = { utf8 };
-
-    ghost widest = { 4 };
-
-    #[inline(always)]
-    fn surely_fit(len: usize) -> usize {
-        len
-    }
-
-    #[inline(always)]
-    fn valid_up_to(bytes: &[u8]) -> usize {
-        mutf8::valid_up_to(bytes)
-    }
-
-    #[inline(always)]
-    fn write(bytes: &[u8], buf: &mut [u8]) -> Option<usize> {
-        mutf8::decode_strict_to_slice(bytes, buf).ok()
-    }
-
-    fn may_begin(bytes: &[u8]) -> bool {
-        laws::concat();
-        Self::valid_up_to(&completed(bytes, PAIR)) > 0
-            || Self::valid_up_to(&completed(bytes, NULL)) > 0
-    }
-
-    fn laws() {
-        laws::concat();
-        laws::no_overlap();
-    }
-}
-
-/// From UTF-8 to CESU-8.
-pub struct ToCesu8;
-
-impl Conversion for ToCesu8 {
+impl<E: Encoding> Conversion for ToEncoding<E> {
     ghost from = { utf8 };
 
-    ghost to = { encoding Cesu8 };
+    ghost to = { encoding E.flavor };
 
     ghost widest = { 6 };
+
+    ghost first_completion = { low_bytes };
+
+    ghost second_completion = { high_bytes };
 
     // An encoding has at most twice the bytes of UTF-8.
     #[inline(always)]
@@ -162,53 +147,18 @@ impl Conversion for ToCesu8 {
     #[inline(always)]
     fn write(bytes: &[u8], buf: &mut [u8]) -> Option<usize> {
         let text = utf8_text(bytes)?;
-        match simd_cesu8::encode_to_slice(text, buf) {
+        match E::encode(text, buf) {
             Ok(len) => Some(len),
             Err(_) => None,
         }
     }
 
-    fn may_begin(bytes: &[u8]) -> bool {
-        utf8_may_begin(bytes)
-    }
-
-    fn laws() {
-        laws::concat();
-    }
-}
-
-/// From UTF-8 to MUTF-8.
-pub struct ToMutf8;
-
-impl Conversion for ToMutf8 {
-    ghost from = { utf8 };
-
-    ghost to = { encoding Mutf8 };
-
-    ghost widest = { 6 };
-
-    // An encoding has at most twice the bytes of UTF-8.
-    #[inline(always)]
-    fn surely_fit(len: usize) -> usize {
-        len / 2
-    }
-
-    #[inline(always)]
-    fn valid_up_to(bytes: &[u8]) -> usize {
-        utf8_valid_up_to(bytes)
-    }
-
-    #[inline(always)]
-    fn write(bytes: &[u8], buf: &mut [u8]) -> Option<usize> {
-        let text = utf8_text(bytes)?;
-        match mutf8::encode_to_slice(text, buf) {
-            Ok(len) => Some(len),
-            Err(_) => None,
-        }
-    }
-
-    fn may_begin(bytes: &[u8]) -> bool {
-        utf8_may_begin(bytes)
+    /// U+100000, and U+20000, whose second byte may follow E0 and F0 too.
+    fn completions() -> ([u8; 6], [u8; 6]) {
+        (
+            [0xF4, 0x80, 0x80, 0x80, 0, 0],
+            [0xF0, 0xA0, 0x80, 0x80, 0, 0],
+        )
     }
 
     fn laws() {

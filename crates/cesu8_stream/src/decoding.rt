@@ -3,13 +3,13 @@
 
 ghost use Rattle.std.specs.Prelude.{◌≡◌, ℕ, List, ◌∷◌, ◌++◌, IfSome, None};
 ghost use Rattle.simd_cesu8.specs.Text.{IsText, utf8};
-ghost use Rattle.simd_cesu8.specs.Encoding.{Cesu8, Mutf8};
 ghost use Rattle.simd_cesu8.specs.Slices.{StandsAtFront};
 ghost use Rattle.simd_cesu8.specs.Reading.{reading as reading_of};
 ghost use Rattle.cesu8_stream.specs.Written.{BeginsNone, NoneCrosses};
 
-use crate::conversion::{Conversion, FromCesu8, FromMutf8};
-use simd_cesu8::{laws, mutf8};
+use crate::conversion::{Conversion, FromEncoding};
+use crate::encodings::Encoding;
+use simd_cesu8::laws;
 
 /// A conversion from an encoding to UTF-8.
 pub trait Decoding: Conversion {
@@ -35,28 +35,12 @@ pub trait Decoding: Conversion {
         ensures to_utf8 { (text : List ℕ) → Self.to text ≡ utf8 text };
 }
 
-impl Decoding for FromCesu8 {
-    ghost reading = { reading_of Cesu8 };
+impl<E: Encoding> Decoding for FromEncoding<E> {
+    ghost reading = { reading_of E.flavor };
 
     #[inline(always)]
     fn write_lossy(bytes: &[u8], buf: &mut [u8]) -> Option<usize> {
-        simd_cesu8::decode_lossy_strict_to_slice(bytes, buf).ok()
-    }
-
-    fn lossy_laws() {
-        laws::around();
-        laws::split();
-        laws::places();
-        laws::lossy();
-    }
-}
-
-impl Decoding for FromMutf8 {
-    ghost reading = { reading_of Mutf8 };
-
-    #[inline(always)]
-    fn write_lossy(bytes: &[u8], buf: &mut [u8]) -> Option<usize> {
-        mutf8::decode_lossy_strict_to_slice(bytes, buf).ok()
+        E::decode_lossy(bytes, buf).ok()
     }
 
     fn lossy_laws() {

@@ -6,6 +6,7 @@ ghost use Rattle.std.specs.Prelude.{◌≡◌, ℕ, ◌<◌, ◌≤◌, List, �
 ghost use Rattle.cesu8_stream.specs.Written.{IsWritten, Begins, BeginsNone, Converts};
 ghost use Rattle.cesu8_stream.specs.Streams.{ConvertsPiece, IsStateOf};
 
+use crate::completion::may_begin;
 use crate::conversion::{Conversion, LONGEST};
 use crate::progress::{Progress, State};
 use crate::window::whole_characters;
@@ -148,7 +149,7 @@ fn state_of<C: Conversion>(rest: &[u8]) -> State
     if first_len::<C>(rest) > 0 {
         return State::OutputFull;
     }
-    if rest.len() < LONGEST && C::may_begin(rest) {
+    if rest.len() < LONGEST && may_begin::<C>(rest) {
         return State::Incomplete;
     }
     State::Malformed

@@ -35,6 +35,7 @@ mod completion;
 mod conversion;
 mod cut;
 mod decoding;
+mod encodings;
 mod engine;
 pub mod laws;
 mod lossy;
@@ -44,7 +45,8 @@ mod progress;
 mod text;
 mod window;
 
-use crate::conversion::{FromCesu8, ToCesu8};
+use crate::conversion::{FromEncoding, ToEncoding};
+use crate::encodings::Cesu8Encoding;
 use crate::engine::convert;
 use crate::lossy::decode_lossy;
 pub use crate::progress::{Progress, State};
@@ -69,7 +71,7 @@ pub use crate::progress::{Progress, State};
 pub fn decode_strict(bytes: &[u8], buf: &mut [u8]) -> Progress
     ensures { ConvertsPiece (encoding Cesu8) utf8 4 bytes.now result buf.old buf.new }
 {
-    convert::<FromCesu8>(bytes, buf)
+    convert::<FromEncoding<Cesu8Encoding>>(bytes, buf)
 }
 
 /// Decodes a piece of CESU-8 (Unicode Technical Report 26) that may be damaged, and writes to the
@@ -93,7 +95,7 @@ pub fn decode_lossy_strict(bytes: &[u8], is_last: bool, buf: &mut [u8]) -> Progr
     ensures { DecodesPiece (encoding Cesu8) (reading Cesu8) is_last bytes.now
         result buf.old buf.new }
 {
-    decode_lossy::<FromCesu8>(bytes, is_last, buf)
+    decode_lossy::<FromEncoding<Cesu8Encoding>>(bytes, is_last, buf)
 }
 
 /// Encodes a piece of UTF-8 to CESU-8 (Unicode Technical Report 26), in the caller's buffer, as
@@ -115,5 +117,5 @@ pub fn decode_lossy_strict(bytes: &[u8], is_last: bool, buf: &mut [u8]) -> Progr
 pub fn encode(bytes: &[u8], buf: &mut [u8]) -> Progress
     ensures { ConvertsPiece utf8 (encoding Cesu8) 6 bytes.now result buf.old buf.new }
 {
-    convert::<ToCesu8>(bytes, buf)
+    convert::<ToEncoding<Cesu8Encoding>>(bytes, buf)
 }

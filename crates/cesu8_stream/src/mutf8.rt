@@ -6,7 +6,8 @@ ghost use Rattle.simd_cesu8.specs.Reading.{reading};
 ghost use Rattle.cesu8_stream.specs.Streams.{ConvertsPiece};
 ghost use Rattle.cesu8_stream.specs.Lossy.{DecodesPiece};
 
-use crate::conversion::{FromMutf8, ToMutf8};
+use crate::conversion::{FromEncoding, ToEncoding};
+use crate::encodings::Mutf8Encoding;
 use crate::engine::convert;
 use crate::lossy::decode_lossy;
 use crate::progress::Progress;
@@ -31,7 +32,7 @@ use crate::progress::Progress;
 pub fn decode_strict(bytes: &[u8], buf: &mut [u8]) -> Progress
     ensures { ConvertsPiece (encoding Mutf8) utf8 4 bytes.now result buf.old buf.new }
 {
-    convert::<FromMutf8>(bytes, buf)
+    convert::<FromEncoding<Mutf8Encoding>>(bytes, buf)
 }
 
 /// Decodes a piece of MUTF-8 (Java's `DataInput`) that may be damaged, and writes to the caller's
@@ -54,7 +55,7 @@ pub fn decode_lossy_strict(bytes: &[u8], is_last: bool, buf: &mut [u8]) -> Progr
     ensures { DecodesPiece (encoding Mutf8) (reading Mutf8) is_last bytes.now
         result buf.old buf.new }
 {
-    decode_lossy::<FromMutf8>(bytes, is_last, buf)
+    decode_lossy::<FromEncoding<Mutf8Encoding>>(bytes, is_last, buf)
 }
 
 /// Encodes a piece of UTF-8 to MUTF-8 (Java's `DataInput`), in the caller's buffer, as much as
@@ -76,5 +77,5 @@ pub fn decode_lossy_strict(bytes: &[u8], is_last: bool, buf: &mut [u8]) -> Progr
 pub fn encode(bytes: &[u8], buf: &mut [u8]) -> Progress
     ensures { ConvertsPiece utf8 (encoding Mutf8) 6 bytes.now result buf.old buf.new }
 {
-    convert::<ToMutf8>(bytes, buf)
+    convert::<ToEncoding<Mutf8Encoding>>(bytes, buf)
 }

@@ -1,4 +1,5 @@
-//! The calls for MUTF-8.
+//! The exports for MUTF-8. Each calls the function of `simd_cesu8::mutf8` that it names, and
+//! returns an `Outcome` for C.
 
 use crate::each::outcome_of_sum;
 use crate::outcome::{

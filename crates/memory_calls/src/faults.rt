@@ -1,4 +1,4 @@
-//! How the errors display.
+//! Prints how the errors display. `tests/memory.sh` compares the lines with what it expects.
 
 use crate::prints::{print_outcome, yes_or_no};
 use java_text::{ReadFault, ReadSliceFault, WriteFault, WriteSliceFault};

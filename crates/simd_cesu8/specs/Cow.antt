@@ -1,4 +1,5 @@
--- The content of a `CowBytes` or a `CowText`, and whether it borrows.
+-- The content of a `CowBytes` or a `CowText`, and whether it borrows. The contracts of the calls
+-- that encode and decode are written with these definitions.
 use Rattle.std.specs.Prelude.{◌≡◌, ℕ, Bool, true, false, ⊤, ◌↔◌, IsTrue, List, length, String, Result, IfOk, vec_capacity}
 use Rattle.std.specs.Global.{Vec, Global}
 use Rattle.std.specs.Str.{chars}
@@ -28,10 +29,12 @@ abbrev pub answer_text : CowText → List ℕ
 answer_text (texts.Borrowed text) = text.now
 answer_text (texts.Owned text) = string_bytes text
 
+-- Whether a result's text is borrowed.
 abbrev pub borrows_text : CowText → Bool
 borrows_text (texts.Borrowed text) = true
 borrows_text (texts.Owned text) = false
 
+-- If the text was built, the fact holds of its string.
 abbrev pub IfOwnedText : CowText → (String Global → Type 0) → Type 0
 IfOwnedText (texts.Borrowed text) P = ⊤
 IfOwnedText (texts.Owned text) P = P text

@@ -7,15 +7,17 @@ use Rattle.simd_cesu8.specs.declared.error.DecodeSliceFault.TheVariants as stric
 use Rattle.simd_cesu8.specs.declared.error.LossySliceFault.{LossySliceFault}
 use Rattle.simd_cesu8.specs.declared.error.LossySliceFault.TheVariants as lossy
 
--- How an error displays.
+-- How an error of a call that decodes displays.
 abbrev pub message_of : DecodeFault → List ℕ
 message_of (Invalid error) = codes "invalid input"
 message_of (Memory error) = codes "out of memory"
 
+-- How an error of a call that decodes to a slice displays.
 abbrev pub slice_message_of : DecodeSliceFault → List ℕ
 slice_message_of (strict.Invalid error) = codes "invalid input"
 slice_message_of (strict.TooShort fault) = codes "buffer too short"
 
+-- How an error of a call that decodes damaged bytes to a slice displays.
 abbrev pub lossy_message_of : LossySliceFault → List ℕ
 lossy_message_of lossy.TooLong = codes "text is too long"
 lossy_message_of (lossy.TooShort fault) = codes "buffer too short"

@@ -20,6 +20,7 @@ use crate::cow::{CowBytes, CowText};
 use crate::error::DecodeFault;
 use std::alloc::{AllocError, Global};
 
+/// Encodes a string, or borrows it if its encoding is its UTF-8.
 #[inline(always)]
 #[tactic(auto, using(cesu8_text::proofs::encoding::NeedsEncoding::encoding_by_need))]
 pub fn encode<F: Flavor>(alloc: Global, value: &str) -> Result<CowBytes<'_>, AllocError>
@@ -56,6 +57,8 @@ pub fn decode_as<F: Flavor, A: Accepts>(
     Ok(CowText::Owned(built))
 }
 
+/// Decodes the first `len` bytes strictly, or all bytes if there are fewer. The fast path loads a
+/// vector that may include bytes after them.
 #[inline(always)]
 pub fn decode_strict_front<F: Flavor>(
     alloc: Global,

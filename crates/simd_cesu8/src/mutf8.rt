@@ -2,8 +2,8 @@
 //! C0 80. So no byte of an encoding is 00. Java writes a string's length in two bytes before it.
 //! These are not part of the encoding here; the crate `java_text` reads and writes them.
 //!
-//! Each call is like the call of the root that has its name. What it takes and returns, which
-//! errors it returns, when it borrows and what it allocates are described there.
+//! Each call does for MUTF-8 what the call of the same name in the crate root does for CESU-8. The
+//! documentation there says what it returns, which errors, when it borrows and what it allocates.
 //!
 //! ```rust
 //! let built = simd_cesu8::mutf8::encode(alloc, "a\0")?;
@@ -214,8 +214,7 @@ pub fn decode_lossy(alloc: Global, bytes: &[u8]) -> Result<CowText<'_>, AllocErr
     decode_lossy_as::<Mutf8Flavor, Lenient>(alloc, bytes)
 }
 
-/// Like [`crate::decoded_len`], for MUTF-8: the length in bytes of the text that [`decode_strict`]
-/// returns, or `None` if the bytes are the encoding of no text.
+/// Like [`crate::decoded_len`], for MUTF-8.
 ///
 /// ```rust
 /// assert_eq!(rt; simd_cesu8::mutf8::decoded_len(b"a\xC0\x80"), Some(2));
@@ -229,8 +228,7 @@ pub fn decoded_len(bytes: &[u8]) -> Option<usize>
     codec::decoded_len::<Mutf8Flavor>(bytes)
 }
 
-/// Like [`crate::lossy_len`], for MUTF-8: the length in bytes of the text that
-/// [`decode_lossy_strict`] returns, or `None` if it does not fit `usize`.
+/// Like [`crate::lossy_len`], for MUTF-8.
 ///
 /// ```rust
 /// assert_eq!(rt; simd_cesu8::mutf8::lossy_len(b"\xC0\x80"), Some(1));
@@ -243,7 +241,7 @@ pub fn lossy_len(bytes: &[u8]) -> Option<usize>
     codec::lossy_len::<Mutf8Flavor>(bytes)
 }
 
-/// Like [`crate::valid_up_to`], for MUTF-8: the length in bytes of the longest valid prefix.
+/// Like [`crate::valid_up_to`], for MUTF-8.
 ///
 /// ```rust
 /// assert_eq!(rt; simd_cesu8::mutf8::valid_up_to(b"id=\xC0\x80\0"), 5);
@@ -271,8 +269,7 @@ pub fn valid_up_to(bytes: &[u8]) -> usize
 /// assert_eq!(rt; simd_cesu8::mutf8::encode_to_slice("a\0", &mut buf)?, 3);
 /// assert_eq!(rt; buf.as_slice(), b"a\xC0\x80\xEE".as_slice());
 /// ```
-// Inlined, as all calls that write to a slice are: a result that is returned in memory would be
-// copied once more.
+// Inlined for the reason that `crate::encode_to_slice` gives.
 #[inline(always)]
 pub fn encode_to_slice(value: &str, buf: &mut [u8]) -> Result<usize, TooShort>
     ensures { WritesAnswer (encoding Mutf8 (chars value.now)) result buf.old buf.new }
@@ -280,8 +277,7 @@ pub fn encode_to_slice(value: &str, buf: &mut [u8]) -> Result<usize, TooShort>
     codec::encode_to_slice::<Mutf8Flavor>(value, buf)
 }
 
-/// Like [`crate::decode_strict_to_slice`], for MUTF-8. It returns `Invalid` for the same bytes as
-/// [`decode_strict`].
+/// Like [`crate::decode_strict_to_slice`], for MUTF-8.
 ///
 /// ```rust
 /// let mut buf = [0xEE; 4];

@@ -4,7 +4,8 @@ ghost use Rattle.std.specs.Prelude.{◌↔◌, IsTrue, Any};
 ghost use Rattle.cesu8_text.specs.Class.{IsFour, IsNullFour};
 
 use super::fallback;
-use crate::lanes::widths::{lanes_four, lanes_null_four};
+use crate::lanes::class::{Either, FourByteLead, Null};
+use crate::lanes::widths::any_by_widths;
 
 /// Returns whether some byte is F0 to F7 (hexadecimal). In UTF-8 these are the lead bytes of
 /// characters of four bytes.
@@ -18,7 +19,7 @@ use crate::lanes::widths::{lanes_four, lanes_null_four};
 pub fn contains_utf8_4_byte_char_header(value: &[u8]) -> bool
     ensures { IsTrue result ↔ Any IsFour value.now }
 {
-    lanes_four(value, fallback::contains_utf8_4_byte_char_header)
+    any_by_widths::<FourByteLead, _>(value, fallback::contains_utf8_4_byte_char_header)
 }
 
 /// Returns whether some byte is 00, or F0 to F7 (hexadecimal).
@@ -32,5 +33,8 @@ pub fn contains_utf8_4_byte_char_header(value: &[u8]) -> bool
 pub fn contains_null_or_utf8_4_byte_char_header(value: &[u8]) -> bool
     ensures { IsTrue result ↔ Any IsNullFour value.now }
 {
-    lanes_null_four(value, fallback::contains_null_or_utf8_4_byte_char_header)
+    any_by_widths::<Either<Null, FourByteLead>, _>(
+        value,
+        fallback::contains_null_or_utf8_4_byte_char_header,
+    )
 }

@@ -2,39 +2,16 @@
 //! `implementation::simd`.
 
 ghost use Rattle.std.specs.Prelude.{◌≡◌, ◌≤◌, ◌<◌, ◌↔◌, IsTrue, IfSome, IfNone, length};
-ghost use Rattle.cesu8_text.specs.Class.{is_four, is_null_four};
 ghost use Rattle.cesu8_bytes.specs.Kernels.{AnyIn, MayTest, Finds};
 
-use super::class::{Either, FourByteLead, LANES, Null};
+use super::class::LANES;
 use super::groups::InGroups;
 use super::search::any_in_chunks;
-
-/// Returns whether some byte is F0 to F7 (hexadecimal), with `fallback` for a single byte that is
-/// left over.
-#[inline(always)]
-pub fn lanes_four<F: Fn(&[u8]) -> bool>(value: &[u8], fallback: F) -> bool
-    requires { MayTest (λ len. len ≡ 1) F.Fn fallback }
-    ensures { Finds (λ len. len ≡ 1) F.Fn fallback is_four
-        → IsTrue result ↔ AnyIn is_four value.now }
-{
-    any_by_widths::<FourByteLead, F>(value, fallback)
-}
-
-/// Returns whether some byte is 00, or F0 to F7 (hexadecimal), with `fallback` for a single byte
-/// that is left over.
-#[inline(always)]
-pub fn lanes_null_four<F: Fn(&[u8]) -> bool>(value: &[u8], fallback: F) -> bool
-    requires { MayTest (λ len. len ≡ 1) F.Fn fallback }
-    ensures { Finds (λ len. len ≡ 1) F.Fn fallback is_null_four
-        → IsTrue result ↔ AnyIn is_null_four value.now }
-{
-    any_by_widths::<Either<Null, FourByteLead>, F>(value, fallback)
-}
 
 /// Returns whether some byte is in a class. Each width tests whole chunks of what the wider ones
 /// left over, and `fallback` tests a single byte at the end.
 #[inline(always)]
-fn any_by_widths<C, F: Fn(&[u8]) -> bool>(value: &[u8], fallback: F) -> bool
+pub fn any_by_widths<C, F: Fn(&[u8]) -> bool>(value: &[u8], fallback: F) -> bool
 where
     C: InGroups<64> + InGroups<32> + InGroups<16> + InGroups<8> + InGroups<4> + InGroups<2>,
     requires { MayTest (λ len. len ≡ 1) F.Fn fallback }

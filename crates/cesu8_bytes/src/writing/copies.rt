@@ -30,7 +30,7 @@ pub fn append(bytes: &[u8], out: &mut Vec<u8>)
     let mut taken = mem::replace(out, Vec::new(*out.allocator()));
     match bytes.len() {
         0..=LANES => append_few(bytes, &mut taken),
-        0..LONG => append_many(bytes, &mut taken),
+        0..LONG => append_vectors(bytes, &mut taken),
         _ => append_each(bytes, &mut taken),
     }
     *out = taken;
@@ -74,7 +74,7 @@ pub fn append_few(bytes: &[u8], out: &mut Vec<u8>)
 
 /// Appends at least 64 bytes, vector by vector. The last vector may overlap the one before it.
 #[inline(always)]
-fn append_many(bytes: &[u8], out: &mut Vec<u8>)
+fn append_vectors(bytes: &[u8], out: &mut Vec<u8>)
     requires lanes { LANES ≤ length bytes.now }
     requires room { vec_len out.old + length bytes.now ≤ vec_capacity out.old }
     ensures { Appends bytes.now out.old out.new }

@@ -7,11 +7,11 @@ use Rattle.std.proofs.lemmas.Bool.Decides.{nat_tests}
 use Rattle.cesu8_text.specs.Encoding.{Flavor}
 use Rattle.cesu8_text.specs.Reading.{StandsAt, width}
 use Rattle.cesu8_text.specs.Laws.{NoneCrosses}
-use Rattle.cesu8_decode.specs.DecodedOffsets.{first_width, first_width_by, width_at}
+use Rattle.cesu8_decode.specs.DecodedOffsets.{first_width, first_width_by, width_at, three_at, pair_at}
 use Rattle.cesu8_decode.proofs.by_offset.FirstWidths.{wide, width_of_first, width_fits}
 use Rattle.cesu8_text.proofs.reading.Stretches.{no_overlap}
 use Rattle.cesu8_decode.proofs.by_offset.WidthTests.{width_tells}
-use Rattle.cesu8_decode.proofs.by_offset.WindowOffsets.{is_boundary_at, Follows, width_in}
+use Rattle.cesu8_decode.proofs.by_offset.WindowOffsets.{is_boundary_at, Follows, width_in, width_there}
 
 -- ---- the widths that there are
 
@@ -93,3 +93,42 @@ boundary_at_end f window bytes follows first =
     let there = width_in f window bytes 5 p follows (omega arith) in
     omega (arith, width_fits f (drop p bytes), length-drop p bytes, ap (width_at f window) offset))
     (cases_lt (length bytes + s) 5))
+
+-- ---- zeros
+
+low_second : (f : Flavor) (a b d e g h : ℕ) → b < 0x80 → first_width_by f a b d e g h ≤ 1
+unfolding first_width_by
+low_second f a b d e g h low = grind (arith, nat_tests)
+
+three_later : (a b d : ℕ) → three_at a b d ≡ true → 0x80 ≤ d
+three_later a b d three = grind (arith, nat_tests)
+
+pair_later : (a b d e g h : ℕ) → pair_at a b d e g h ≡ true → (0x80 ≤ d) × (0x80 ≤ e) × (0x80 ≤ g) × (0x80 ≤ h)
+pair_later a b d e g h pair = grind (arith, nat_tests)
+
+-- Each byte of a character after the first one is at least 80 (hexadecimal).
+bytes_later : (f : Flavor) (a b d e g h : ℕ) → let w = first_width_by f a b d e g h in
+    (2 ≤ w → 0x80 ≤ b) × (3 ≤ w → 0x80 ≤ d) × (4 ≤ w → 0x80 ≤ e) × (4 ≤ w → 0x80 ≤ g) × (4 ≤ w → 0x80 ≤ h)
+bytes_later f a b d e g h = grind (arith, nat_tests, width_tells, pair_later, low_second, three_later)
+
+zero_ends : (f : Flavor) (a b d e g h s : ℕ) → 0 < s → (s ≡ 1 → b ≡ 0) → (s ≡ 2 → d ≡ 0) → (s ≡ 3 → e ≡ 0) → (s ≡ 4 → g ≡ 0) → (s ≡ 5 → h ≡ 0) →
+    first_width_by f a b d e g h ≤ s
+zero_ends f a b d e g h s some h1 h2 h3 h4 h5 = grind (arith, nat_tests, bytes_later, width_tells)
+
+-- A character that begins before a zero ends at or before it.
+pub ends_by_zero : (f : Flavor) (bytes : List ℕ) (i m : ℕ) → i < m → get_or bytes m 0 ≡ 0 → i + width_at f bytes i ≤ m
+ends_by_zero f bytes i m before null =
+    let zero : (k : ℕ) → m - i ≡ k → get_or bytes (i + k) 0 ≡ 0 = λ k is. let there : i + k ≡ m = omega arith in ap (λ p. get_or bytes p 0) there ∙ null in
+    omega (arith, zero_ends f (get_or bytes i 0) _ _ _ _ _ (m - i) (omega arith) (zero 1) (zero 2) (zero 3) (zero 4) (zero 5))
+
+-- No character crosses the offset of a zero.
+pub boundary_at_zero : (f : Flavor) (bytes : List ℕ) (i : ℕ) → get_or bytes i 0 ≡ 0 → is_boundary_at f (0 ∷ 0 ∷ 0 ∷ 0 ∷ 0 ∷ bytes) i ≡ true
+boundary_at_zero f bytes i null =
+    let window = 0 ∷ 0 ∷ 0 ∷ 0 ∷ 0 ∷ bytes in
+    boundary_where f window i (λ s small.
+    ⊎_elim (λ (early : i + s < 5).
+    omega (arith, zero_width f window (i + s) (eqb-true _ _ (agree_below_at (λ s. eqb (get_or window s 0) 0) (λ _. true) 5 (i + s) refl early))))
+    (λ (late : 5 ≤ i + s).
+    let there : i + s ≡ i + s - 5 + 5 = omega arith in
+    omega (arith, ends_by_zero f bytes (i + s - 5) i (omega arith) null, width_there f bytes (i + s - 5), ap (width_at f window) there))
+    (cases_lt (i + s) 5))

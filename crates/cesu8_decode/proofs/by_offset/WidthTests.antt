@@ -1,7 +1,7 @@
 -- The width of the character that begins some bytes, by tests of the first six bytes.
 use Rattle.std.proofs.lemmas.Bool.Decides.{nat_tests}
 use Rattle.std.proofs.Common.{◌≡◌, ℕ, ◌<◌, ◌≤◌, ◌⊎◌, ⊎_elim, Bool, cond, true, false, eqb, leb, ltb, List, [], ◌∷◌, ◌∙◌, arith, length, get_or}
-use Rattle.std.proofs.lemmas.Bool.{and_parts, and_from, eqb-true, leb-true, ltb-true, le-leb, lt-ltb, cases_lt, cases_Bool}
+use Rattle.std.proofs.lemmas.Bool.{and_parts, and_from, eqb-true, leb-true, ltb-true, le-leb, lt-ltb, cases_lt}
 use Rattle.std.proofs.lemmas.List.{get_or_past}
 use Rattle.cesu8_text.specs.Encoding.{Flavor, Mutf8}
 use Rattle.cesu8_text.specs.Patterns.{IsContinuation}
@@ -80,11 +80,6 @@ none_found f bytes fail = width_of_none f bytes (λ c rest begins. no_pattern f 
 
 -- ---- prefixes
 
--- Bytes that do not begin with a surrogate pair fail its test.
-pub no_pair : (bytes : List ℕ) → ¬ (HasPair bytes) →
-    pair_at (get_or bytes 0 0) (get_or bytes 1 0) (get_or bytes 2 0) (get_or bytes 3 0) (get_or bytes 4 0) (get_or bytes 5 0) ≡ false
-no_pair bytes none = grind (arith, cases_Bool, pair_of_test bytes)
-
 -- A number is the width if it is what the first test that passes says.
 by_tests : (one null two three pair : Bool) (n : ℕ) → (one ≡ true → n ≡ 1) → (null ≡ true → n ≡ 2) → (two ≡ true → n ≡ 2) → (three ≡ true → n ≡ 3) → (pair ≡ true → n ≡ 6) →
     ((one ≡ false) × (null ≡ false) × (two ≡ false) × (three ≡ false) × (pair ≡ false) → n ≡ 0) →
@@ -100,10 +95,12 @@ width_by_six f bytes some =
 -- What a width says about the tests.
 by_chain : (one null two three pair : Bool) → let w : ℕ = cond one 1 (cond null 2 (cond two 2 (cond three 3 (cond pair 6 0)))) in
     ((w ≤ 3) ⊎ (w ≡ 6)) × (eqb w 1 ≡ one) × (leb 1 w ≡ cond (leb w 1) one true) × (w ≡ 6 → pair ≡ true)
+    × (w ≡ 3 → three ≡ true) × (w ≡ 2 → (null ≡ true) ⊎ (two ≡ true))
 by_chain one null two three pair = grind (arith, nat_tests)
 
 pub width_tells : (f : Flavor) (a b d e g h : ℕ) → let w = first_width_by f a b d e g h in
     ((w ≤ 3) ⊎ (w ≡ 6)) × (eqb w 1 ≡ one_at f a) × (leb 1 w ≡ cond (leb w 1) (one_at f a) true) × (w ≡ 6 → pair_at a b d e g h ≡ true)
+    × (w ≡ 3 → three_at a b d ≡ true) × (w ≡ 2 → (null_at f a b ≡ true) ⊎ (two_at a b ≡ true))
 unfolding first_width_by
 width_tells f a b d e g h = by_chain (one_at f a) (null_at f a b) (two_at a b) (three_at a b d) (pair_at a b d e g h)
 

@@ -1,6 +1,5 @@
 -- What is known about the offsets of a window depends on its bytes there and a few more.
 use Rattle.std.proofs.Common.{◌≡◌, ℕ, zero, suc, ◌+◌, ◌<◌, ◌≤◌, List, ◌++◌, refl, sym, ap, ◌∙◌, arith, get_or, append_assoc, add-zero, zero-add, suc-add, length, drop, length-drop, get_or-drop, ◌∷◌}
-use lib.Lanes.{chunk}
 use Rattle.cesu8_text.specs.Encoding.{Flavor}
 use Rattle.cesu8_decode.specs.DecodedOffsets.{first_width, first_width_by, width_at, decoded_byte, decoded_at, decoded, is_ill_formed_at, ill_formed_by, saved, saved_between}
 pub use Rattle.cesu8_decode.specs.DecodedOffsets.{boundary_by, is_boundary_at}
@@ -97,16 +96,12 @@ Follows window bytes i = (k : ℕ) → get_or window (i + k) 0 ≡ get_or bytes 
 
 -- From a later offset on, the window has the bytes without the first n.
 pub follows_later : (window bytes : List ℕ) (i n : ℕ) → Follows window bytes i → Follows window (drop n bytes) (n + i)
-follows_later window bytes i n follows k =
-    let offset : n + i + k ≡ i + (n + k) = omega arith in
-    ap (λ p. get_or window p 0) offset ∙ follows (n + k) ∙ sym (get_or-drop n bytes k 0)
+follows_later window bytes i n follows k = grind (arith, get_or-drop)
 
 -- The width at the first offset of the bytes in the window is the width of the bytes.
 pub width_following : (f : Flavor) (window bytes : List ℕ) (i : ℕ) → Follows window bytes i → 0 < length bytes →
     width_at f window i ≡ first_width f bytes
-width_following f window bytes i follows some =
-    width_agrees f window bytes i 0 (λ k small. follows k ∙ ap (λ p. get_or bytes p 0) (sym (zero-add k)))
-    ∙ sym (width_by_six f bytes some)
+width_following f window bytes i follows some = grind (arith, width_agrees, zero-add, width_by_six)
 
 -- The width at offset n of the bytes in the window is the width of the bytes without the first n.
 pub width_in : (f : Flavor) (window bytes : List ℕ) (i n : ℕ) → Follows window bytes i → n < length bytes →
@@ -116,12 +111,8 @@ width_in f window bytes i n follows inside =
 
 -- The window of some bytes has them after five zeros.
 pub follows_zeros : (bytes : List ℕ) → Follows (0 ∷ 0 ∷ 0 ∷ 0 ∷ 0 ∷ bytes) bytes 5
-follows_zeros bytes k =
-    let offset : 5 + k ≡ suc (suc (suc (suc (suc k)))) = omega arith in
-    ap (λ p. get_or (0 ∷ 0 ∷ 0 ∷ 0 ∷ 0 ∷ bytes) p 0) offset
+follows_zeros bytes k = grind arith
 
--- The bytes at an offset are in their window five bytes later.
-pub chunk_in_window : (bytes : List ℕ) (at n : ℕ) → chunk at n bytes ≡ chunk (at + 5) n (0 ∷ 0 ∷ 0 ∷ 0 ∷ 0 ∷ bytes)
-chunk_in_window bytes at n =
-    let offset : suc (suc (suc (suc (suc at)))) ≡ at + 5 = omega arith in
-    ap (λ p. chunk p n (0 ∷ 0 ∷ 0 ∷ 0 ∷ 0 ∷ bytes)) offset
+-- The width at an offset is in the window five bytes later.
+pub width_there : (f : Flavor) (bytes : List ℕ) (i : ℕ) → width_at f (0 ∷ 0 ∷ 0 ∷ 0 ∷ 0 ∷ bytes) (i + 5) ≡ width_at f bytes i
+width_there f bytes i = grind (arith, width_agrees, follows_zeros)

@@ -1,6 +1,6 @@
 -- What is written for a window of bytes is a chunk of their text, or an ill-formed byte in the
 -- window is a fault of the bytes.
-use Rattle.std.proofs.Common.{◌≡◌, ℕ, ◌+◌, ◌<◌, ◌≤◌, true, false, List, [], ◌∷◌, ◌++◌, sym, ap, ◌∙◌, subst, inr, arith, length, take, drop}
+use Rattle.std.proofs.Common.{◌≡◌, ℕ, ◌+◌, ◌<◌, ◌≤◌, true, false, List, [], ◌∷◌, sym, ◌∙◌, subst, inr, arith, length, take, drop}
 use Rattle.std.specs.Prelude.{slice_index}
 use Rattle.std.proofs.lemmas.Bool.Decides.{nat_tests}
 use Rattle.std.proofs.lemmas.List.{take-append-drop, length-take-le}
@@ -41,9 +41,7 @@ first_chunk f bytes n crosses = grind (arith, nat_tests, reading_is_text, split,
 -- It is also a chunk in strict decoding, if it is the strict reading of these bytes.
 strict_first_chunk : (f : Flavor) (which : Strictness) (bytes : List ℕ) (n : ℕ) → IsStrictReading f (take n bytes) (reading f (take n bytes)) →
     IsChunk f which bytes (drop n bytes) (utf8 (reading f (take n bytes)))
-strict_first_chunk f which bytes n reads =
-    chunk_of_text f which bytes (reading f (take n bytes)) (drop n bytes) reads.0
-    (sym (take-append-drop n bytes) ∙ ap (λ bs. bs ++ drop n bytes) (sym reads.1))
+strict_first_chunk f which bytes n reads = grind (arith, nat_tests, chunk_of_text, take-append-drop)
 
 -- ---- chunks by windows
 

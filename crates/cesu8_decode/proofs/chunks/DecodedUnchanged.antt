@@ -1,11 +1,11 @@
 -- What is written for unchanged characters at a boundary: the same bytes.
-use Rattle.std.proofs.Common.{◌≡◌, ℕ, ◌+◌, ◌-◌, ◌<◌, ◌≤◌, true, false, List, [], ◌∷◌, ◌++◌, ⊎_elim, refl, sym, ap, ◌∙◌, subst, arith, append_assoc, length, take, drop, length-append, length-drop, take-append-drop}
+use Rattle.std.proofs.Common.{◌≡◌, ℕ, ◌+◌, ◌-◌, ◌<◌, ◌≤◌, true, false, List, [], ◌∷◌, ◌++◌, ⊎_elim, sym, ap, ◌∙◌, subst, arith, append_assoc, length, take, drop, length-append, length-drop, take-append-drop}
 use Rattle.std.proofs.Math.Seq.{drop-append_seam}
 use Rattle.std.proofs.lemmas.Bool.{cases_Bool, cases_lt}
 use Rattle.std.proofs.lemmas.List.{append_cancel_right, drop-append-le, drop-drop, length-take-le}
 use Rattle.cesu8_text.specs.Text.{IsText, utf8}
 use Rattle.cesu8_text.specs.Encoding.{Flavor, encoding}
-use Rattle.cesu8_text.specs.Reading.{StandsAt, reading, width}
+use Rattle.cesu8_text.specs.Reading.{StandsAt, reading}
 use Rattle.cesu8_text.proofs.reading.Decoding.{utf8_append}
 use Rattle.cesu8_text.proofs.reading.Stretches.{later}
 use Rattle.cesu8_bytes.specs.declared.strictness.Strictness.TheVariants.{Lossy}

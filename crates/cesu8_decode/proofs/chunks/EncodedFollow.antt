@@ -13,7 +13,7 @@ use Rattle.cesu8_text.proofs.encoding.Forms.{encoding_one, encoding_two, encodin
 use Rattle.cesu8_text.proofs.encoding.Lengths.{otherwise}
 use Rattle.cesu8_bytes.specs.Pairs.{null_at}
 use Rattle.cesu8_decode.specs.DecodedOffsets.{continues}
-use Rattle.cesu8_decode.specs.Following.{CharacterSet, Encoded, Unchanged, has_changed, first_low, shown, after_fillers, follows}
+use Rattle.cesu8_decode.specs.Following.{CharacterSet, Encoded, Unchanged, has_changed, first_low, shown, after_fillers}
 use Rattle.cesu8_decode.specs.Front.{AreWhole, IsOutside}
 use Rattle.cesu8_decode.proofs.by_offset.WidthTests.{is_continuation}
 use Rattle.cesu8_decode.proofs.chunks.FollowingBytes.{Ends, FollowToEnd, FollowBefore, by_index, start, short_of, low_if_meant}
@@ -66,18 +66,11 @@ module _ (s : CharacterSet) (f : Flavor) (rest : List ℕ) (then : (a b d e : �
 
   fit_three : (g h i : ℕ) → 0xE0 ≤ g → g < 0xF0 → 0x80 ≤ h → h < 0xC0 → (g ≡ 0xE0 → 0xA0 ≤ h) → (g ≡ 0xED → h < 0xA0) →
       0x80 ≤ i → i < 0xC0 → FollowToEnd s f a b d e (g ∷ h ∷ i ∷ rest)
-  fit_three g h i leads small h_low h_high no_overlong no_surrogate i_low i_high =
-      let shows : shown s f g h ≡ 0 = grind (arith, below_low, shows_second) in
-      let last : follows s f d e g h i ≡ true = grind (arith, nat_tests, shows_third) in
-      let after = then e g h i (grind (arith, nat_tests)) in
-      (grind (arith, nat_tests, no_null, shows_begin), (grind (arith, nat_tests), (last, after)))
+  fit_three g h i leads small h_low h_high no_overlong no_surrogate i_low i_high = grind (arith, nat_tests, below_low, shows_second, shows_third, no_null, shows_begin)
 
   fit_pair : (h i l m : ℕ) → has_changed s ≡ true → 0xA0 ≤ h → h < 0xB0 → 0x80 ≤ i → i < 0xC0 → 0xB0 ≤ l → l < 0xC0 → 0x80 ≤ m → m < 0xC0 →
       FollowToEnd s f a b d e (0xED ∷ h ∷ i ∷ 0xED ∷ l ∷ m ∷ rest)
-  fit_pair h i l m meant h_low h_high i_low i_high l_low l_high m_low m_high =
-      let is_low = low_if_meant s meant in
-      let after = then i 0xED l m (grind (arith, nat_tests)) in
-      grind (arith, nat_tests, no_null, shows_begin, shows_second, shows_third, shows_low)
+  fit_pair h i l m meant h_low h_high i_low i_high l_low l_high m_low m_high = grind (arith, nat_tests, low_if_meant, no_null, shows_begin, shows_second, shows_third, shows_low)
 
 -- U+0000 in MUTF-8 has a form of two bytes.
 null_form : (f : Flavor) (c : ℕ) → is_null f c ≡ true →

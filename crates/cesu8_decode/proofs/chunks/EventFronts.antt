@@ -29,11 +29,10 @@ use Rattle.cesu8_decode.proofs.by_offset.CharacterBoundaries.{boundary_of_zeros,
 use Rattle.cesu8_decode.proofs.by_offset.FirstWidths.{width_of_first, ascii_forms}
 use Rattle.cesu8_decode.proofs.by_offset.IllFormed.{IsCovered, covered_read, covered_in_front, covered_where, not_covered_where}
 use Rattle.cesu8_decode.proofs.by_offset.WidthTests.{pair_by_prefix}
-use Rattle.cesu8_decode.proofs.by_offset.WindowOffsets.{follows_zeros}
+use Rattle.cesu8_decode.proofs.by_offset.WindowOffsets.{width_there, follows_zeros}
 use Rattle.cesu8_decode.proofs.chunks.Changed.{pair_width, null_lead}
 use Rattle.cesu8_decode.proofs.chunks.FrontReadings.{otherwise_begins}
 use Rattle.cesu8_decode.proofs.chunks.WholeBytes.{null_otherwise, none_outside}
-use Rattle.cesu8_decode.proofs.decoder.EventsDecoded.{width_there}
 
 -- ---- a prefix of whole characters
 

@@ -1,5 +1,5 @@
 -- The length of the longest prefix of whole characters of a set.
-use Rattle.std.proofs.Common.{◌≡◌, ℕ, ◌+◌, ◌<◌, ◌≤◌, ◌↔◌, ⊎_elim, true, false, true≢false, cond, leb, get_or, ltb, List, [], ◌∷◌, ◌++◌, refl, sym, ap, ◌∙◌, subst, arith, length, take, drop, length-append, length-drop}
+use Rattle.std.proofs.Common.{◌≡◌, ℕ, ◌+◌, ◌<◌, ◌≤◌, ◌↔◌, ⊎_elim, true, false, true≢false, cond, leb, get_or, List, [], ◌∷◌, ◌++◌, sym, ap, ◌∙◌, subst, arith, length, take, drop, length-append, length-drop}
 use Rattle.std.proofs.Math.Seq.{take-add, take-append_seam, take-length}
 use Rattle.std.proofs.lemmas.Bool.{agree_below_at, cases_lt, ltb-true}
 use Rattle.std.proofs.lemmas.Bool.Decides.{nat_tests}
@@ -63,9 +63,7 @@ module _ (s : CharacterSet) (bytes : List ℕ) (n : ℕ) where
 
 -- A lead byte is none of the four zeros before the bytes.
 pub behind_fillers : (bytes : List ℕ) (i : ℕ) → 0xC0 ≤ get_or (after_fillers bytes) i 0 → 4 ≤ i
-behind_fillers bytes i high =
-    ⊎_elim (λ (near : i < 4). let filler = agree_below_at (λ i. ltb (get_or (after_fillers bytes) i 0) 0xC0) (λ _. true) 4 i refl near in
-    absurd (omega (arith, ltb-true _ 0xC0 filler))) (λ far. far) (cases_lt i 4)
+behind_fillers bytes i high = grind (arith, nat_tests, agree_below_at, ltb-true)
 
 -- If all bytes are whole characters, the prefix is all bytes.
 pub all_front : (s : CharacterSet) (f : Flavor) (bytes : List ℕ) → AreWhole s f bytes → IsFront s f bytes (length bytes)
@@ -78,10 +76,7 @@ all_front s f bytes whole = record {
 module _ (s : CharacterSet) (f : Flavor) (bytes : List ℕ) (n : ℕ) (front : IsFront s f bytes n) where
   -- The prefix is all bytes if and only if they are whole characters.
   pub front_of_all : (n ≡ length bytes) ↔ AreWhole s f bytes
-  front_of_all = (
-    λ all. subst (AreWhole s f) (take_all n bytes (omega (arith, all))) front.whole,
-    λ whole. let all = subst (AreWhole s f) (sym (take-length bytes)) whole in grind (arith, front.greatest (length bytes)),
-  )
+  front_of_all = grind (arith, nat_tests, take_all, take-length)
 
   -- If the prefix is not all bytes, bytes are left after it.
   pub more_behind : ¬ (n ≡ length bytes) → n < length bytes

@@ -1,12 +1,9 @@
 -- What the masks of at most 64 bytes say about their prefixes.
-use Rattle.std.proofs.Common.{◌≡◌, ℕ, ◌+◌, ◌<◌, ◌≤◌, ◌⊎◌, ⊎_elim, Bool, true, false, ltb, min, bit_or, map, zero-add, ◌^◌, ◌&&◌, ◌||◌, List, sym, ap, ◌∙◌, subst, arith, length}
+use Rattle.std.proofs.Common.{◌≡◌, ℕ, ◌+◌, ◌<◌, ◌≤◌, ◌⊎◌, ⊎_elim, Bool, true, false, ltb, min, bit_or, zero-add, ◌&&◌, ◌||◌, List, sym, ap, ◌∙◌, subst, arith, length}
 use Rattle.std.proofs.lemmas.Bool.{cases_lt}
 use Rattle.std.proofs.lemmas.Bool.Decides.{nat_tests}
 use Rattle.std.specs.Int.{trailing_zeros, bit_at, w64}
 use Rattle.std.specs.Int.Count.{trailing_of_zero}
-use Rattle.std.specs.List.{range_with_len}
-use Rattle.std.proofs.lemmas.Simd.{mask_l-lt}
-use Rattle.std.proofs.lemmas.List.FromFn.{length-map-range_with_len}
 use Rattle.std.proofs.lemmas.Nat.Bits.{bit_at-trailing_zeros, bit_at-zero}
 use Rattle.cesu8_text.specs.Encoding.{Flavor}
 use Rattle.cesu8_text.specs.Reading.{HasNoStrictReading}
@@ -16,9 +13,7 @@ use Rattle.cesu8_decode.specs.Following.{Encoded, Unchanged}
 use Rattle.cesu8_decode.specs.Front.{IsFront, AreChanges, is_changed_at}
 use Rattle.cesu8_decode.specs.Masks.{IsWindow, Marks, is_pair_at, is_null_at}
 use Rattle.cesu8_decode.proofs.by_offset.IllFormed.{IsCovered, encoding_covered}
-use Rattle.cesu8_decode.proofs.decoder.Events.{marked, unmarked}
-use Rattle.cesu8_decode.proofs.decoder.WindowMasks.{marks_below}
-use Rattle.cesu8_decode.proofs.decoder.MaskBits.{bits_from, marks_from, or_bits, told_by}
+use Rattle.cesu8_decode.proofs.decoder.MaskBits.{marked, unmarked, marks_fit, bits_from, marks_from, or_bits, told_by}
 use Rattle.cesu8_decode.proofs.chunks.EventFronts.{valid_front, unchanged_front, none_covers}
 
 -- The bits of both masks together mark the offsets that pass either test.
@@ -29,13 +24,6 @@ either_marks p q n first second =
   where
     spread : (t p q : Bool) → ((t && p) || (t && q)) ≡ (t && (p || q))
     spread t p q = grind (arith, nat_tests)
-
--- A mask of at most 64 offsets fits 64 bits.
-mask_small : (test : ℕ → Bool) (at n : ℕ) {a : ℕ} → n ≤ 64 → Marks a test at n → a < 2 ^ 64
-mask_small test at n {a = a} few marks =
-    let tests = map test (range_with_len at n) in
-    let low = subst (λ m. m < 2 ^ length tests) (sym marks) (mask_l-lt tests) in
-    marks_below n a few (subst (λ k. a < 2 ^ k) (length-map-range_with_len test at n) low)
 
 -- The first m of n offsets fail a test, and the next one passes it.
 pub record IsFirst (test : ℕ → Bool) (n m : ℕ) : Type 0 where
@@ -48,7 +36,7 @@ pub first_marked : (test : ℕ → Bool) (n mask : ℕ) → n ≤ 64 → Marks m
     m ≡ min (trailing_zeros w64 mask) n → IsFirst test n m
 first_marked test n mask few marks m is =
     ⊎_elim (λ (some : 0 < mask).
-    let bits = bit_at-trailing_zeros w64 mask some (mask_small test 0 n few marks) in
+    let bits = bit_at-trailing_zeros w64 mask some (marks_fit test 0 n few marks) in
     let first = marked mask test 0 n marks (trailing_zeros w64 mask) bits.1 in
     let here : m ≡ trailing_zeros w64 mask = omega (arith, is, first.0) in record {
       within = omega (arith, is);
@@ -131,7 +119,7 @@ module _ (f : Flavor) (bytes : List ℕ) (window : Window) (few : length bytes �
   -- If a byte is ill-formed, there is no strict reading.
   pub none_by_mask : 0 < ill → HasNoStrictReading f bytes
   none_by_mask some text reads =
-      let bits = bit_at-trailing_zeros w64 ill some (mask_small (is_ill_formed_at f (window_of bytes)) 0 (length bytes) few of_ill) in
+      let bits = bit_at-trailing_zeros w64 ill some (marks_fit (is_ill_formed_at f (window_of bytes)) 0 (length bytes) few of_ill) in
       let bad = marked ill (is_ill_formed_at f (window_of bytes)) 0 (length bytes) of_ill (trailing_zeros w64 ill) bits.1 in
       none_covers f bytes (trailing_zeros w64 ill) (omega (arith, bad.0)) bad.0
       (ap (is_ill_formed_at f (window_of bytes)) (sym (zero-add (trailing_zeros w64 ill))) ∙ bad.1)

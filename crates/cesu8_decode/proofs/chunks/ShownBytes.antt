@@ -41,9 +41,7 @@ tests : (s : CharacterSet) (f : Flavor) (a b : ℕ) → (shown s f a b ≡ 0x20 
     × (shown s f a b ≡ 0 → leb 0xC0 a ≡ true → ltb a 0xC0 ≡ false → (leb 0xF0 a ≡ false) × (continues b ≡ true) × (eqb a 0xC0 ≡ true → (has_changed s && null_at f 0xC0 b) ≡ true)
     × (eqb a 0xC0 ≡ false → (eqb a 0xC1 ≡ false) × ((eqb a 0xE0 && ltb b 0xA0) ≡ false) × ((eqb a 0xED && leb (first_low s) b) ≡ false)))
 unfolding shown
-tests s f a b =
-    by_tests (is_null f b) (leb 0xF0 a) (continues b) (leb 0xC0 a) (ltb a 0x80) (ltb a 0xC0) (eqb a 0xC0) (has_changed s && null_at f 0xC0 b)
-    (eqb a 0xC1) (eqb a 0xE0 && ltb b 0xA0) (eqb a 0xED && leb (first_low s) b)
+tests s f a b = grind (arith, nat_tests, by_tests)
 
 -- A byte of class 0 after a lead byte is a second byte, and after any other byte it begins a
 -- character.

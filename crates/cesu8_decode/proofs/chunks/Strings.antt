@@ -1,10 +1,9 @@
 -- The text that a vector holds.
-use Rattle.std.proofs.Common.{◌≡◌, ◌∙◌, sym, ap, arith, ℕ, ◌+◌, List, [], ◌++◌, length, length-append, append-nil, Vec, vec_capacity, Result, Ok, IfOk}
+use Rattle.std.proofs.Common.{◌≡◌, ◌∙◌, sym, arith, ℕ, ◌+◌, List, [], ◌++◌, length, length-append, append-nil, Vec, vec_capacity, Result, Ok, IfOk}
 use Rattle.std.proofs.lemmas.Bool.Decides.{nat_tests}
 use Rattle.cesu8_text.specs.Encoding.{Flavor}
 use Rattle.cesu8_bytes.specs.TextChunks.{IsReadSoFar}
 use Rattle.cesu8_text.specs.Laws.{NoneCrosses}
-use Rattle.cesu8_text.specs.Text.{utf8}
 use Rattle.cesu8_bytes.specs.declared.strictness.Strictness.TheVariants.{Lossy}
 use Rattle.cesu8_text.specs.Reading.{lossy_length}
 use Rattle.cesu8_text.proofs.reading.Splits.{split}
@@ -26,9 +25,7 @@ read_apart f bytes first rest text whole apart read = grind (arith, nat_tests, s
 
 -- The appended bytes have the length of the lossy reading.
 appended_length : (f : Flavor) (bytes old new : List ℕ) → IsReadSoFar f Lossy bytes [] old new → length new ≡ length old + lossy_length f bytes
-appended_length f bytes old new read =
-    let chunk : IsChunk f Lossy bytes [] (utf8 read.text) = grind arith in
-    ap length read.written ∙ length-append old (utf8 read.text) ∙ ap (λ n. length old + n) (sym (lossy_text_length f bytes (utf8 read.text) chunk))
+appended_length f bytes old new read = grind (arith, length-append, lossy_text_length)
 
 -- If the text of the rest is appended to that of the first bytes, in a vector with capacity for
 -- both, the whole text is built.

@@ -67,9 +67,7 @@ module _ (f : Flavor) (bytes : List ℕ) (n : ℕ) (front : IsFront Unchanged f 
 
   -- The unchanged prefix is all bytes exactly if they are UTF-8 in which nothing needs conversion.
   pub all_unchanged : (n ≡ length bytes) ↔ IsUnchangedUtf8 f bytes
-  all_unchanged =
-      let of_all = front_of_all Unchanged f bytes n front in
-      (λ all. whole_unchanged f bytes (of_all.0 all), λ unchanged. of_all.1 (unchanged_whole f bytes unchanged))
+  all_unchanged = grind (arith, nat_tests, front_of_all, whole_unchanged, unchanged_whole)
 
   -- If all bytes are UTF-8, the bytes after the prefix are UTF-8 too.
   rest_utf8 : IsUtf8 bytes → IsUtf8 (drop n bytes)

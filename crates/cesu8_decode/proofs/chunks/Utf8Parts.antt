@@ -39,10 +39,7 @@ after_utf8 bytes n within front =
 
 -- UTF-8 does not begin with a continuation byte.
 begins : (text : List ℕ) → IsText text → ¬ (IsContinuation (get_or (utf8 text) 0 0))
-begins text is_text continues =
-    ⊎_elim (λ (some : 0 < length (utf8 text)). absurd (omega (arith, (IsCharBoundary-start (utf8 text) (IsUtf8_utf8 text is_text)).1 some continues.0, continues)))
-    (λ (none : length (utf8 text) ≤ 0). absurd (omega (arith, get_or_past (utf8 text) 0 0 none, continues)))
-    (cases_lt 0 (length (utf8 text)))
+begins text is_text continues = grind (arith, nat_tests, IsCharBoundary-start, IsUtf8_utf8, get_or_past)
 
 at_most_four : (c : ℕ) → length (utf8_of c) ≤ 4
 unfolding utf8_of

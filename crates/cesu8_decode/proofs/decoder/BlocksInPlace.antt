@@ -1,7 +1,7 @@
 -- What is written window by window, and what has been decoded then.
 use Rattle.std.proofs.lemmas.Bool.Decides.{nat_tests}
 use Rattle.std.proofs.lemmas.Grind.{common_steps}
-use Rattle.std.proofs.Common.{◌≡◌, ℕ, zero, suc, ◌+◌, ◌-◌, ◌<◌, ◌≤◌, ◌⊎◌, ⊎_elim, Bool, true, false, true≢false, List, [], ◌++◌, refl, sym, ap, ◌∙◌, arith, get_or, length, drop, replicate, zero-add, append_assoc}
+use Rattle.std.proofs.Common.{◌≡◌, ℕ, zero, suc, ◌+◌, ◌-◌, ◌<◌, ◌≤◌, ◌⊎◌, Bool, true, false, true≢false, List, [], ◌++◌, refl, sym, ap, ◌∙◌, arith, get_or, length, drop, replicate, zero-add, append_assoc}
 use Rattle.std.proofs.lemmas.List.{length-append, length-drop, get_or-drop, get_or_past}
 use Rattle.std.proofs.Math.Seq.{take-length}
 use Rattle.std.proofs.lemmas.Bool.{cases_lt}
@@ -77,19 +77,7 @@ windows_alike a b alike (suc (suc (suc (suc (suc k))))) = alike k
 -- offset on, if the copy includes the five bytes before that offset, or all bytes before it.
 pub last_agrees : (bytes last : List ℕ) (first at n : ℕ) → ((k : ℕ) → get_or last k 0 ≡ get_or bytes (first + k) 0) →
     first ≤ at → (first ≡ 0) ⊎ (first + 5 ≤ at) → Agree (window_of last) (window_of bytes) (at - first) at n
-last_agrees bytes last first at n are inside either k small =
-    ⊎_elim
-    (λ (all : first ≡ 0).
-    let here : at - first + k ≡ at + k = omega arith in
-    ap (λ j. get_or (window_of last) j 0) here
-    ∙ windows_alike last bytes (λ j. are j ∙ ap (λ i. get_or bytes i 0) (ap (λ m. m + j) all ∙ zero-add j)) (at + k))
-    (λ (before : first + 5 ≤ at).
-    let here : at - first + k ≡ 5 + (at - first + k - 5) = omega arith in
-    let there : at + k ≡ 5 + (at + k - 5) = omega arith in
-    let same : first + (at - first + k - 5) ≡ at + k - 5 = omega arith in
-    ap (λ j. get_or (window_of last) j 0) here ∙ follows_zeros last (at - first + k - 5) ∙ are (at - first + k - 5)
-    ∙ ap (λ i. get_or bytes i 0) same ∙ sym (follows_zeros bytes (at + k - 5)) ∙ sym (ap (λ j. get_or (window_of bytes) j 0) there))
-    either
+last_agrees bytes last first at n are inside either k small = grind (arith, nat_tests, windows_alike, zero-add, follows_zeros)
 
 -- After the end of the bytes the copy has zeros.
 pub last_zeros : (bytes last : List ℕ) (first i : ℕ) → ((k : ℕ) → get_or last k 0 ≡ get_or bytes (first + k) 0) → length bytes ≤ first + i →
@@ -99,21 +87,14 @@ last_zeros bytes last first i are beyond = are i ∙ get_or_past bytes (first + 
 -- Bytes that are copied to zeros are followed by zeros.
 pub copied_to_zeros : (bytes last : List ℕ) (first m : ℕ) (zeros : List ℕ) → zeros ≡ replicate m 0 → last ≡ drop first bytes ++ drop (length (drop first bytes)) zeros →
     (k : ℕ) → get_or last k 0 ≡ get_or bytes (first + k) 0
-copied_to_zeros bytes last first m zeros is copied k =
-    let rest = drop first bytes in
-    let n = length rest in
-    ap (λ bs. get_or bs k 0) copied
-    ∙ padded rest (drop n zeros) (λ i. get_or-drop n zeros i 0 ∙ ap (λ bs. get_or bs (n + i) 0) is ∙ zeros_at m (n + i)) k
-    ∙ get_or-drop first bytes k 0
+copied_to_zeros bytes last first m zeros is copied k = grind (arith, nat_tests, padded, get_or-drop, zeros_at)
 
 -- ---- what is written
 
 -- What is written for more bytes is appended to what is written for the first ones.
 more_written : (f : Flavor) (window before old new : List ℕ) (at len : ℕ) → old ≡ before ++ decoded f window 0 at →
     new ≡ old ++ decoded f window at len → new ≡ before ++ decoded f window 0 (at + len)
-more_written f window before old new at len old_is new_is =
-    new_is ∙ ap (λ l. l ++ decoded f window at len) old_is ∙ append_assoc before (decoded f window 0 at) (decoded f window at len)
-    ∙ ap (λ bs. before ++ bs) (ap (λ i. decoded f window 0 at ++ decoded f window i len) (sym (zero-add at)) ∙ sym (decoded_split f window 0 at len))
+more_written f window before old new at len old_is new_is = grind (arith, nat_tests, append_assoc, zero-add, decoded_split)
 
 -- Nothing is written for no bytes.
 pub none_decoded : (f : Flavor) (which : Strictness) (window before : List ℕ) → IsDecoded f which window 0 0 before before false

@@ -1,12 +1,13 @@
 -- Which offsets the characters of a window cover, by the masks of their starts.
-use Rattle.std.proofs.Common.{◌≡◌, ℕ, zero, suc, ◌+◌, ◌-◌, ◌*◌, ◌%◌, ◌^◌, ◌<◌, ◌≤◌, ◌⊎◌, ⊎_elim, inl, inr, Bool, cond, true, false, ◌&&◌, ◌||◌, eqb, leb, ltb, List, get_or, bit_or, refl, sym, ap, ◌∙◌, arith}
-use Rattle.std.proofs.lemmas.Bool.{cases_lt, or_cases, and_parts, and_from, lt-ltb, le-leb, ltb-true, leb-true, or_left, or_right, eq-eqb}
+use Rattle.std.proofs.Common.{◌≡◌, ℕ, zero, suc, ◌+◌, ◌-◌, ◌*◌, ◌%◌, ◌^◌, ◌<◌, ◌≤◌, ◌⊎◌, ⊎_elim, Bool, cond, true, false, ◌&&◌, ◌||◌, eqb, leb, ltb, List, get_or, bit_or, refl, sym, ap, ◌∙◌, arith}
+use Rattle.std.proofs.lemmas.Bool.{cases_lt, or_cases, and_parts, and_from, lt-ltb, le-leb, ltb-true, leb-true, or_left, or_right, eq-eqb, eqb-true}
 use Rattle.std.proofs.lemmas.Bool.Decides.{nat_tests}
 use Rattle.cesu8_text.specs.Encoding.{Flavor}
 use Rattle.cesu8_bytes.specs.Pairs.{null_at}
 use Rattle.cesu8_decode.specs.DecodedOffsets.{one_at, two_at, three_at, pair_at, first_width_by, width_at}
 use Rattle.cesu8_decode.specs.Masks.{HasBits, is_two_at, is_three_at, is_pair_at, is_null_at}
 use Rattle.cesu8_decode.proofs.by_offset.CharacterBoundaries.{width_bounds}
+use Rattle.cesu8_decode.proofs.by_offset.WidthTests.{width_tells}
 use Rattle.cesu8_decode.proofs.decoder.MaskBits.{or_bits, earlier_bits}
 
 -- ---- the widths of forms
@@ -18,19 +19,12 @@ pub record Forms (w : ℕ) (one null two three pair : Bool) : Type 0 where
   pub is_two : two ≡ true → w ≡ 2
   pub is_three : three ≡ true → w ≡ 3
   pub is_pair : pair ≡ true → w ≡ 6
-  pub some : ((w ≡ 0) × (one ≡ false)) ⊎ ((one ≡ true) ⊎ ((null ≡ true) ⊎ ((two ≡ true) ⊎ ((three ≡ true) ⊎ (pair ≡ true)))))
 
 chain : (one null two three six : Bool) →
     (null ≡ true → one ≡ false) → (two ≡ true → (one ≡ false)) → (three ≡ true → (one ≡ false) × (null ≡ false) × (two ≡ false)) →
     let w : ℕ = cond one 1 (cond null 2 (cond two 2 (cond three 3 (cond six 6 0)))) in
-    (one ≡ true → w ≡ 1) × (null ≡ true → w ≡ 2) × (two ≡ true → w ≡ 2) × (three ≡ true → w ≡ 3) × (eqb w 6 ≡ true → w ≡ 6)
-    × (((w ≡ 0) × (one ≡ false)) ⊎ ((one ≡ true) ⊎ ((null ≡ true) ⊎ ((two ≡ true) ⊎ ((three ≡ true) ⊎ (eqb w 6 ≡ true))))))
-chain true null two three six h1 h2 h3 = grind arith
-chain false true two three six h1 h2 h3 = grind arith
-chain false false true three six h1 h2 h3 = grind arith
-chain false false false true six h1 h2 h3 = grind arith
-chain false false false false true h1 h2 h3 = grind arith
-chain false false false false false h1 h2 h3 = grind arith
+    (one ≡ true → w ≡ 1) × (null ≡ true → w ≡ 2) × (two ≡ true → w ≡ 2) × (three ≡ true → w ≡ 3)
+chain one null two three six h1 h2 h3 = grind arith
 
 pub forms : (f : Flavor) (a b d e g h : ℕ) → let w = first_width_by f a b d e g h in
     Forms w (one_at f a) (null_at f a b) (two_at a b) (three_at a b d) (eqb w 6)
@@ -39,7 +33,7 @@ forms f a b d e g h =
     let c = chain (one_at f a) (null_at f a b) (two_at a b) (three_at a b d) (pair_at a b d e g h)
     (λ null. grind (arith, nat_tests)) (λ two. grind (arith, nat_tests))
     (λ three. (grind (arith, nat_tests), grind (arith, nat_tests), grind (arith, nat_tests))) in
-    record { is_one = c.0; is_null = c.1; is_two = c.2; is_three = c.3; is_pair = c.4; some = c.5 }
+    record { is_one = c.0; is_null = c.1; is_two = c.2; is_three = c.3; is_pair = eqb-true (first_width_by f a b d e g h) 6 }
 
 -- ---- covered offsets
 
@@ -49,9 +43,13 @@ module _ (f : Flavor) (bytes : List ℕ) (at n : ℕ) where
 
   pub formed : (i : ℕ) →
       Forms (w i) (one_at f (get_or bytes (at + i) 0)) (is_null_at f bytes (at + i)) (is_two_at bytes (at + i)) (is_three_at bytes (at + i)) (is_pair_at f bytes (at + i))
-  formed i =
-      let b = λ (k : ℕ). get_or bytes k 0 in
-      forms f (b (at + i)) (b (at + i + 1)) (b (at + i + 2)) (b (at + i + 3)) (b (at + i + 4)) (b (at + i + 5))
+  formed i = grind (arith, nat_tests, forms)
+
+  by_three : (i : ℕ) → w i ≡ 3 → is_three_at bytes (at + i) ≡ true
+  by_three i = (width_tells f (get_or bytes (at + i) 0) _ _ _ _ _).4
+
+  by_two : (i : ℕ) → w i ≡ 2 → (is_null_at f bytes (at + i) ≡ true) ⊎ (is_two_at bytes (at + i) ≡ true)
+  by_two i = (width_tells f (get_or bytes (at + i) 0) _ _ _ _ _).5
 
   -- An offset below n that passes a test.
   abbrev first : (ℕ → Bool) → ℕ → Bool
@@ -99,9 +97,7 @@ module _ (f : Flavor) (bytes : List ℕ) (at n : ℕ) where
   marked test i set = let parts = and_parts (ltb i n) (test (at + i)) set in (ltb-true i n parts.0, parts.1)
 
   marked_after : (k : ℕ) (test : ℕ → Bool) (i : ℕ) → after k test i ≡ true → (k ≤ i) × (test (i - k) ≡ true)
-  marked_after k test i set =
-      let parts = and_parts (leb k i) (test (i - k)) (and_parts (ltb i 64) (leb k i && test (i - k)) set).1 in
-      (leb-true k i parts.0, parts.1)
+  marked_after k test i set = grind (arith, nat_tests, and_parts, leb-true)
 
   from_threes : (i : ℕ) → threes_by i ≡ true → Part 3 i
   from_threes i set =
@@ -146,27 +142,10 @@ module _ (f : Flavor) (bytes : List ℕ) (at n : ℕ) where
   mark test i inside passes = and_from (ltb i n) (test (at + i)) (lt-ltb i n inside) passes
 
   mark_after : (k : ℕ) (test : ℕ → Bool) (i j : ℕ) → i ≡ j + k → i < 64 → test j ≡ true → after k test i ≡ true
-  mark_after k test i j there small passes =
-      let place : i - k ≡ j = omega (arith, there) in
-      and_from (ltb i 64) (leb k i && test (i - k)) (lt-ltb i 64 small)
-      (and_from (leb k i) (test (i - k)) (le-leb k i (omega arith)) (ap test place ∙ passes))
+  mark_after k test i j there small passes = grind (arith, nat_tests, and_from, lt-ltb, le-leb)
 
   to_threes : (i : ℕ) → i < n → 3 ≤ w i → threes_by i ≡ true
-  to_threes i inside wide =
-      let three = first (is_three_at bytes) in
-      let pair = first (is_pair_at f bytes) in
-      let form = formed i in
-      or_left (three i || pair i) (after 3 pair i) (long form.some)
-    where
-      long : ((w i ≡ 0) × (one_at f (get_or bytes (at + i) 0) ≡ false)) ⊎ ((one_at f (get_or bytes (at + i) 0) ≡ true) ⊎ ((is_null_at f bytes (at + i) ≡ true)
-          ⊎ ((is_two_at bytes (at + i) ≡ true) ⊎ ((is_three_at bytes (at + i) ≡ true) ⊎ (is_pair_at f bytes (at + i) ≡ true))))) →
-          (first (is_three_at bytes) i || first (is_pair_at f bytes) i) ≡ true
-      long (inl none) = absurd (omega (arith, none.0, wide))
-      long (inr (inl one)) = absurd (omega (arith, (formed i).is_one one, wide))
-      long (inr (inr (inl null))) = absurd (omega (arith, (formed i).is_null null, wide))
-      long (inr (inr (inr (inl two)))) = absurd (omega (arith, (formed i).is_two two, wide))
-      long (inr (inr (inr (inr (inl three))))) = or_left (first (is_three_at bytes) i) (first (is_pair_at f bytes) i) (mark (is_three_at bytes) i inside three)
-      long (inr (inr (inr (inr (inr pair))))) = or_right (first (is_three_at bytes) i) (first (is_pair_at f bytes) i) (mark (is_pair_at f bytes) i inside pair)
+  to_threes i inside wide = grind (arith, nat_tests, or_left, mark, by_three, or_right, eq-eqb, width_bounds)
 
   abbrev two : ℕ → Bool
   two = first (is_two_at bytes)
@@ -176,31 +155,16 @@ module _ (f : Flavor) (bytes : List ℕ) (at n : ℕ) where
 
   to_begins : (i : ℕ) → i < n → 2 ≤ w i → begins_by i ≡ true
   to_begins i inside wide =
-      ⊎_elim (λ (short : w i < 3). or_left (two i || null i) (threes_by i) (narrow short (formed i).some))
+      ⊎_elim (λ (short : w i < 3). or_left (two i || null i) (threes_by i)
+      (⊎_elim (λ (h : is_null_at f bytes (at + i) ≡ true). or_right (two i) (null i) (mark (is_null_at f bytes) i inside h))
+      (λ (h : is_two_at bytes (at + i) ≡ true). or_left (two i) (null i) (mark (is_two_at bytes) i inside h))
+      (by_two i (omega arith))))
       (λ (long : 3 ≤ w i). or_right (two i || null i) (threes_by i) (to_threes i inside long))
       (cases_lt (w i) 3)
-    where
-      narrow : w i < 3 → ((w i ≡ 0) × (one_at f (get_or bytes (at + i) 0) ≡ false)) ⊎ ((one_at f (get_or bytes (at + i) 0) ≡ true) ⊎ ((is_null_at f bytes (at + i) ≡ true)
-          ⊎ ((is_two_at bytes (at + i) ≡ true) ⊎ ((is_three_at bytes (at + i) ≡ true) ⊎ (is_pair_at f bytes (at + i) ≡ true))))) →
-          (two i || null i) ≡ true
-      narrow short (inl none) = absurd (omega (arith, none.0, wide))
-      narrow short (inr (inl one)) = absurd (omega (arith, (formed i).is_one one, wide))
-      narrow short (inr (inr (inl h))) = or_right (two i) (null i) (mark (is_null_at f bytes) i inside h)
-      narrow short (inr (inr (inr (inl h)))) = or_left (two i) (null i) (mark (is_two_at bytes) i inside h)
-      narrow short (inr (inr (inr (inr (inl three))))) = absurd (omega (arith, (formed i).is_three three, short))
-      narrow short (inr (inr (inr (inr (inr pair))))) = absurd (omega (arith, (formed i).is_pair pair, short))
-
-  pub widths : (i : ℕ) → (w i ≤ 3) ⊎ (w i ≡ 6)
-  widths i = width_bounds f bytes (at + i)
 
   -- The second three bytes of a surrogate pair are marked.
   threes_later : (j i : ℕ) → j < n → 4 ≤ w j → i ≡ j + 3 → i < 64 → threes_by i ≡ true
-  threes_later j i inside wide there small =
-      let three = first (is_three_at bytes) in
-      let pair = first (is_pair_at f bytes) in
-      let six : w j ≡ 6 = ⊎_elim (λ (low : w j ≤ 3). absurd (omega arith)) (λ (six : w j ≡ 6). six) (widths j) in
-      or_right (three i || pair i) (after 3 pair i)
-      (mark_after 3 pair i j there small (mark (is_pair_at f bytes) j inside (eq-eqb (w j) 6 six)))
+  threes_later j i inside wide there small = grind (arith, nat_tests, width_bounds, or_right, mark_after, mark, eq-eqb)
 
   from_begin : (i : ℕ) → begins_by i ≡ true → covered_by i ≡ true
   from_begin i set = or_left (begins_by i || after 1 begins_by i) (after 2 threes_by i) (or_left (begins_by i) (after 1 begins_by i) set)
@@ -227,7 +191,7 @@ module _ (f : Flavor) (bytes : List ℕ) (at n : ℕ) where
   to_covered j (suc (suc (suc (suc (suc zero))))) i inside reach wide there small =
       from_third (j + 3) i (omega (arith, there)) small (threes_later j (j + 3) inside (omega arith) refl (omega arith))
   to_covered j (suc (suc (suc (suc (suc (suc s)))))) i inside reach wide there small =
-      absurd (⊎_elim (λ (low : w j ≤ 3). omega (arith, low, reach)) (λ (six : w j ≡ 6). omega (arith, six, reach)) (widths j))
+      absurd (omega (arith, reach, width_bounds f bytes (at + j)))
 
   -- ---- the masks of the code
 

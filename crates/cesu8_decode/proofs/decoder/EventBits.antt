@@ -1,11 +1,12 @@
 -- The bits of the events, which a loop visits one after another.
-use Rattle.std.proofs.Common.{◌≡◌, ◌≢◌, ℕ, zero, suc, ◌+◌, ◌-◌, ◌*◌, ◌/◌, ◌%◌, ◌^◌, ◌<◌, ◌≤◌, ◌⊎◌, ⊎_elim, inl, inr, sym, ap, ◌∙◌, arith}
-use Rattle.std.specs.Int.{bit_at}
-use Rattle.std.specs.Int.Bits.{bit_and}
+use Rattle.std.proofs.Common.{◌≡◌, ◌≢◌, ℕ, zero, suc, ◌+◌, ◌-◌, ◌*◌, ◌/◌, ◌%◌, ◌^◌, ◌<◌, ◌≤◌, ◌⊎◌, ⊎_elim, inl, inr, sym, ap, ◌∙◌, arith, min, max}
+use Rattle.std.specs.Int.{bit_at, bit_not, w64}
+use Rattle.std.specs.Int.Bits.{bit_and, bit_or}
 use Rattle.std.proofs.lemmas.Bool.{cases_lt, cases_eq}
 use Rattle.std.proofs.lemmas.Nat.{div-add-mod'}
 use Rattle.std.proofs.lemmas.Nat.{mod-pow-add, pow_pos, pow_below}
-use Rattle.std.proofs.lemmas.Nat.Bits.{bit_at-lt, bit_at_and, bit_at_ones_above, bit_at_cat_low, bit_at_cat_high}
+use Rattle.std.proofs.lemmas.Nat.Bits.{bit_at-lt, bit_at_lowest, bit_at-suc, bit_at_above, bit_at_or, bit_at_not, bit_at_and, bit_at_ones_above, bit_at_cat_low, bit_at_cat_high}
+use Rattle.cesu8_decode.proofs.decoder.MaskBits.{bit_kept}
 
 -- ---- the lowest bit
 
@@ -42,9 +43,7 @@ module _ (n k : ℕ) (lowest : IsLowest n k) where
 
   -- n & (n - 1) clears bit k.
   pub cleared : bit_at (bit_and n (n - 1)) k ≡ 0
-  cleared =
-      let there = ap (λ m. bit_at m k) less ∙ bit_at_cat_low above (1 + k) (2 ^ k - 1) k (omega arith) ∙ bit_at_ones_above k k (omega arith) in
-      bit_at_and n (n - 1) k ∙ omega (arith, there)
+  cleared = grind (arith, less, bit_at_cat_low, bit_at_ones_above, bit_at_and)
 
   -- n & (n - 1) leaves the other bits unchanged.
   pub others_stay : (i : ℕ) → i ≢ k → bit_at (bit_and n (n - 1)) i ≡ bit_at n i
@@ -73,10 +72,7 @@ NoEvent changing ill i = (bit_at changing i ≡ 0) × (bit_at ill i ≡ 0)
 
 -- A bit that is not 1 is 0.
 pub unset : (n i : ℕ) → (bit_at n i ≡ 1 → ⊥) → bit_at n i ≡ 0
-unset n i none =
-    ⊎_elim (λ (zero : bit_at n i ≡ 0). zero)
-    (λ (some : ¬ (bit_at n i ≡ 0)). absurd (none (omega (arith, some, bit_at-lt n i))))
-    (cases_eq (bit_at n i) 0)
+unset n i none = grind (arith, bit_at-lt)
 
 module _ (changing ill read events : ℕ) (are : AreEvents changing ill read events) where
   -- No ill-formed byte precedes the next event.
@@ -134,3 +130,59 @@ module _ (changing ill read events : ℕ) (are : AreEvents changing ill read eve
             (cases_lt run.0 after))
             (are.begins i (omega (arith, are.later next lowest.set)) set);
       }
+
+-- ---- the events at the first byte
+
+-- The bits of a word that is shifted left by one.
+module _ (n : ℕ) where
+  pub shifted_first : bit_at (n * 2 % 2 ^ 64) 0 ≡ 0
+  shifted_first = bit_kept (n * 2) 0 (omega arith) ∙ bit_at_lowest (n * 2) ∙ omega arith
+
+  pub shifted_next : (i j : ℕ) → i < 64 → i ≡ j + 1 → bit_at (n * 2 % 2 ^ 64) i ≡ bit_at n j
+  shifted_next i j small there =
+      let next : i ≡ suc j = omega arith in
+      let half : n * 2 / 2 ≡ n = omega arith in
+      bit_kept (n * 2) i small ∙ ap (bit_at (n * 2)) next ∙ bit_at-suc (n * 2) j ∙ ap (λ m. bit_at m j) half
+
+-- At the first byte, all events are left.
+module _ (changing ill : ℕ) (fits : ill < 2 ^ 64) where
+  abbrev shifted : ℕ
+  shifted = ill * 2 % 2 ^ 64
+
+  abbrev events : ℕ
+  events = bit_or changing (bit_and ill (bit_not w64 shifted))
+
+  event_bit : (i : ℕ) → bit_at events i ≡ max (bit_at changing i) (min (bit_at ill i) (1 - bit_at shifted i))
+  event_bit i =
+      let small : shifted < 2 ^ 64 = omega arith in
+      bit_at_or changing (bit_and ill (bit_not w64 shifted)) i ∙ ap (max (bit_at changing i)) (bit_at_and ill (bit_not w64 shifted) i)
+      ∙ ⊎_elim (λ (inside : i < 64). ap (λ k. max (bit_at changing i) (min (bit_at ill i) k)) (bit_at_not w64 shifted i small inside))
+      (λ (past : 64 ≤ i). omega (arith, bit_at_above ill 64 i fits past))
+      (cases_lt i 64)
+
+  ill_inside : (i : ℕ) → bit_at ill i ≡ 1 → i < 64
+  ill_inside i set =
+      ⊎_elim (λ (inside : i < 64). inside) (λ (past : 64 ≤ i). absurd (omega (arith, set, bit_at_above ill 64 i fits past))) (cases_lt i 64)
+
+  -- An event that is no bit of `changing` is one of `ill`, and the bit before it is not set.
+  event_ill : (i : ℕ) → bit_at events i ≡ 1 → (bit_at changing i ≡ 1) ⊎ ((bit_at ill i ≡ 1) × (bit_at shifted i ≡ 0))
+  event_ill i set = grind (arith, event_bit, bit_at-lt)
+
+  pub all_events : AreEvents changing ill 0 events
+  all_events = record {
+    later = λ i set. omega arith;
+    is = λ i set. ⊎_elim (λ one. inl one) (λ (bad : (bit_at ill i ≡ 1) × (bit_at shifted i ≡ 0)). inr bad.0) (event_ill i set);
+    first = λ i j there set.
+        ⊎_elim (λ one. inl one) (λ (bad : (bit_at ill i ≡ 1) × (bit_at shifted i ≡ 0)). inr (sym (shifted_next ill i j (ill_inside i bad.0) there) ∙ bad.1))
+        (event_ill i set);
+    changes = λ i low set. omega (arith, set, event_bit i, bit_at-lt ill i);
+    begins = λ i low set.
+        ⊎_elim (λ (start : i ≡ 0). inl (omega (arith, set, event_bit i, ap (bit_at shifted) start, shifted_first ill, bit_at-lt changing i)))
+        (λ (later : ¬ (i ≡ 0)).
+        let there : i ≡ i - 1 + 1 = omega (arith, later) in
+        ⊎_elim (λ (run : bit_at ill (i - 1) ≡ 1). inr (i - 1, there, omega arith, run))
+        (λ (alone : ¬ (bit_at ill (i - 1) ≡ 1)).
+        inl (omega (arith, set, event_bit i, shifted_next ill i (i - 1) (ill_inside i set) there, alone, bit_at-lt ill (i - 1), bit_at-lt changing i)))
+        (cases_eq (bit_at ill (i - 1)) 1))
+        (cases_eq i 0);
+  }

@@ -8,18 +8,17 @@ use Rattle.cesu8_text.specs.Text.{utf8, utf8_of}
 use Rattle.cesu8_text.specs.Encoding.{Flavor}
 use Rattle.cesu8_text.specs.Reading.{reading}
 use Rattle.cesu8_text.proofs.reading.Decoding.{utf8_append}
-use Rattle.cesu8_bytes.specs.Packing.{written_for}
 use Rattle.cesu8_bytes.specs.Puts.{WritesAt}
 use Rattle.cesu8_bytes.proofs.lists.Stored.{first_written, written_behind}
 use Rattle.cesu8_bytes.specs.Pairs.{null_at, IsUtf8OfDigits, second_third_fifth_sixth, HasPair}
 use Rattle.cesu8_bytes.specs.TextChunks.{IsReadSoFar}
 use Rattle.cesu8_bytes.specs.declared.strictness.Strictness.TheVariants.{Lossy}
-use Rattle.cesu8_decode.specs.DecodedOffsets.{first_width_by, width_at, window_of, is_boundary_at, is_ill_formed_at, one_at, two_at, three_at, pair_at, ill_formed_by, goes_by, byte_by, decoded_byte, decoded_at, decoded}
+use Rattle.cesu8_decode.specs.DecodedOffsets.{first_width_by, width_at, window_of, is_boundary_at, is_ill_formed_at, one_at, two_at, three_at, pair_at, ill_formed_by, decoded_byte, decoded_at, decoded}
 use Rattle.cesu8_decode.specs.Masks.{is_null_at, is_pair_at}
 use Rattle.cesu8_decode.proofs.by_offset.CharacterBoundaries.{boundary_ends, boundary_where, ends_before, zero_width}
 use Rattle.cesu8_decode.proofs.by_offset.DecodedText.{decoded_from_boundary}
 use Rattle.cesu8_decode.proofs.by_offset.IllFormed.{not_reached}
-use Rattle.cesu8_decode.proofs.by_offset.WindowOffsets.{follows_zeros, follows_later, width_in, decoded_split}
+use Rattle.cesu8_decode.proofs.by_offset.WindowOffsets.{follows_zeros, width_there, follows_later, width_in, decoded_split}
 use Rattle.cesu8_decode.proofs.by_offset.WidthTests.{null_found, pair_of_test, width_tells}
 use Rattle.cesu8_decode.proofs.chunks.Changed.{pair_width, pair_read, seen_null_read}
 
@@ -31,11 +30,6 @@ byte_there bytes i = let offset : i + 5 ≡ 5 + i = omega arith in ap (λ p. get
 
 byte_after : (bytes : List ℕ) (i k : ℕ) → get_or (window_of bytes) (i + 5 + k) 0 ≡ get_or bytes (i + k) 0
 byte_after bytes i k = let offset : i + 5 + k ≡ i + k + 5 = omega arith in ap (λ p. get_or (window_of bytes) p 0) offset ∙ byte_there bytes (i + k)
-
--- The width at an offset is in the window five bytes later.
-pub width_there : (f : Flavor) (bytes : List ℕ) (i : ℕ) → width_at f (window_of bytes) (i + 5) ≡ width_at f bytes i
-width_there f bytes i k =
-    first_width_by f (byte_there bytes i k) (byte_after bytes i 1 k) (byte_after bytes i 2 k) (byte_after bytes i 3 k) (byte_after bytes i 4 k) (byte_after bytes i 5 k)
 
 zeros_before : (bytes : List ℕ) (i : ℕ) → i < 5 → get_or (window_of bytes) i 0 ≡ 0
 zeros_before bytes i small = eqb-true _ _ (agree_below_at (λ s. eqb (get_or (window_of bytes) s 0) 0) (λ _. true) 5 i refl small)
@@ -89,10 +83,7 @@ module _ (f : Flavor) (bytes : List ℕ) where
       eqb (w (i + 1)) 6 ≡ false → (eqb (w (i + 5)) 2 && eqb (b (i + 5)) 0xC0) ≡ false → (eqb (w (i + 4)) 2 && eqb (b (i + 4)) 0xC0) ≡ false →
       is_ill_formed_at f (window_of bytes) i ≡ false → decoded_at f (window_of bytes) i ≡ b (i + 5) ∷ []
   unfolding decoded_byte
-  becomes_itself i p5 p4 p3 p2 p1 here before fine =
-      let goes : goes_by (w (i + 5)) (w (i + 4)) (b (i + 5)) ≡ false = rw (p5, p4, here) refl in
-      let byte : byte_by (w (i + 4)) (w (i + 3)) (w (i + 2)) (w (i + 1)) (b (i + 3)) (b (i + 4)) (b (i + 5)) ≡ b (i + 5) = rw (p3, p2, p1, before) refl in
-      (λ k. written_for (goes k) (fine k) (byte k))
+  becomes_itself i p5 p4 p3 p2 p1 here before fine = grind (arith, nat_tests)
 
   -- If no surrogate pair begins in the n bytes after a boundary, none covers any of them.
   module _ (at n : ℕ) (boundary : is_boundary_at f (window_of bytes) at ≡ true) (pairs : (i : ℕ) → at ≤ i → i < at + n → is_pair_at f bytes i ≡ false) where
@@ -123,30 +114,11 @@ module _ (f : Flavor) (bytes : List ℕ) where
     -- A byte there that is not ill-formed and in no C0 80 is unchanged.
     pub plain_at : (i : ℕ) → at ≤ i → i < at + n → is_null_at f bytes i ≡ false → ((j : ℕ) → at ≤ j → i ≡ j + 1 → is_null_at f bytes j ≡ false) →
         is_ill_formed_at f (window_of bytes) i ≡ false → decoded_at f (window_of bytes) i ≡ get_or bytes i 0 ∷ []
-    plain_at i low inside null before fine =
-        let same : i + 5 - 5 ≡ i = omega arith in
-        becomes_itself i (no_pair_at (i + 5) (omega arith) (omega arith)) (no_pair_at (i + 4) (omega arith) (omega arith))
-        (no_pair_at (i + 3) (omega arith) (omega arith)) (no_pair_at (i + 2) (omega arith) (omega arith)) (no_pair_at (i + 1) (omega arith) (omega arith))
-        (no_null_at (i + 5) (omega arith) (λ _. ap (is_null_at f bytes) same ∙ null))
-        (no_null_at (i + 4) (omega arith) (λ late. before (i + 4 - 5) (omega arith) (omega arith))) fine
-        ∙ ap (λ x. x ∷ []) (byte_there bytes i)
+    plain_at i low inside null before fine = grind (arith, nat_tests, becomes_itself, no_pair_at, no_null_at, byte_there)
 
     -- A byte there that is not ill-formed and at which no C0 80 begins is not C0.
     pub no_lone_lead : (i : ℕ) → at ≤ i → i < at + n → is_null_at f bytes i ≡ false → is_ill_formed_at f (window_of bytes) i ≡ false → get_or bytes i 0 ≡ 0xC0 → ⊥
-    no_lone_lead i low inside null fine lead =
-        let first = byte_there bytes i in
-        let second = byte_after bytes i 1 in
-        let here : b (i + 5) ≡ 0xC0 = first ∙ lead in
-        let e4 : i + 4 + 1 ≡ i + 5 = omega arith in
-        let e3 : i + 3 + 2 ≡ i + 5 = omega arith in
-        let is_null : null_at f (b (i + 5)) (b (i + 5 + 1)) ≡ false = (λ k. null_at f (first k) (second k)) ∙ null in
-        let n0 = lead_first f (b (i + 5)) (b (i + 5 + 1)) (b (i + 5 + 2)) (b (i + 5 + 3)) (b (i + 5 + 4)) (b (i + 5 + 5)) is_null here in
-        let n1 = lead_second f (b (i + 4)) (b (i + 4 + 1)) (b (i + 4 + 2)) (b (i + 4 + 3)) (b (i + 4 + 4)) (b (i + 4 + 5))
-        (no_pair_at (i + 4) (omega arith) (omega arith)) (ap b e4 ∙ here) in
-        let n2 = lead_third f (b (i + 3)) (b (i + 3 + 1)) (b (i + 3 + 2)) (b (i + 3 + 3)) (b (i + 3 + 4)) (b (i + 3 + 5))
-        (no_pair_at (i + 3) (omega arith) (omega arith)) (ap b e3 ∙ here) in
-        no_cover (w (i + 5)) (w (i + 4)) (w (i + 3)) (w (i + 2)) (w (i + 1)) (w i) n0 n1 n2 (no_pair_at (i + 2) (omega arith) (omega arith))
-        (no_pair_at (i + 1) (omega arith) (omega arith)) (no_pair_at i low (omega arith)) fine
+    no_lone_lead i low inside null fine lead = grind (arith, nat_tests, byte_there, byte_after, lead_first, lead_second, no_pair_at, lead_third, no_cover)
 
   kept_at : (at n : ℕ) → is_boundary_at f (window_of bytes) at ≡ true → ((i : ℕ) → at ≤ i → i < at + n → Stays f bytes i) →
       (i : ℕ) → at ≤ i → i < at + n → decoded_at f (window_of bytes) i ≡ get_or bytes i 0 ∷ []
@@ -255,9 +227,7 @@ module _ (f : Flavor) (bytes : List ℕ) where
   -- What decoding writes for C0 80 is 00.
   module _ (at : ℕ) (fits : at + 2 ≤ length bytes) (null : is_null_at f bytes at ≡ true) where
     begins_null : null_at f (get_or (drop at bytes) 0 0) (get_or (drop at bytes) 1 0) ≡ true
-    begins_null =
-        let first = get_or-drop at bytes 0 0 ∙ ap (λ p. get_or bytes p 0) (add-zero at) in
-        (λ k. null_at f (first k) (get_or-drop at bytes 1 0 k)) ∙ null
+    begins_null = grind (arith, nat_tests, get_or-drop, add-zero, null)
 
     two : w (at + 5) ≡ 2
     two = width_in f (window_of bytes) bytes 5 at (follows_zeros bytes) (omega arith) ∙ null_found f (drop at bytes) begins_null

@@ -11,8 +11,7 @@ use Rattle.std.proofs.lemmas.Nat.Bits.{bit_at-lt, bit_at_above, same_from_bits}
 use Rattle.std.proofs.lemmas.Simd.{bit_mask_l}
 use lib.Lanes.{sel_l, chunk}
 use Rattle.std.proofs.Math.Seq.{take-append_seam}
-use Rattle.std.proofs.lemmas.Simd.{map-map, mask_l-lt}
-use Rattle.std.proofs.Math.Pow.{pow_mono}
+use Rattle.std.proofs.lemmas.Simd.{map-map}
 use Rattle.std.proofs.lemmas.List.FromFn.{take-map-range_with_len}
 use Rattle.cesu8_bytes.specs.Puts.{WritesAt}
 use Rattle.cesu8_bytes.proofs.lists.Stored.{first_written, written_behind}
@@ -21,14 +20,15 @@ use Rattle.std.proofs.lemmas.Bool.{ne_eqb, cases_eq}
 use Rattle.std.proofs.lemmas.Nat.Bits.{bit_at-zero}
 use Rattle.std.proofs.Math.Nat.{div-le_self}
 use Rattle.cesu8_text.specs.Encoding.{Flavor}
-use Rattle.cesu8_bytes.specs.declared.strictness.Strictness.TheVariants.{Lossy}
 use Rattle.cesu8_decode.specs.DecodedOffsets.{window_of, is_boundary_at, is_ill_formed_at, decoded_at, decoded}
 use Rattle.cesu8_decode.specs.Masks.{IsWindow, is_null_at, is_pair_at}
 use Rattle.cesu8_decode.specs.declared.lanes.windows.Window.{Window}
 use Rattle.cesu8_decode.proofs.by_offset.WindowOffsets.{decoded_split}
 use Rattle.cesu8_decode.proofs.chunks.Changed.{null_lead}
 use Rattle.cesu8_decode.proofs.decoder.EventBits.{unset}
-use Rattle.cesu8_decode.proofs.decoder.Events.{null_set, ill_set, pair_unset, null_unset, ill_unset, shifted_first, shifted_next, none_changes, ends_within, none_inside, rest_bit}
+use Rattle.cesu8_decode.proofs.decoder.EventBits.{shifted_first, shifted_next}
+use Rattle.cesu8_decode.proofs.decoder.MaskBits.{rest_bit, marks_fit}
+use Rattle.cesu8_decode.proofs.decoder.WindowEnds.{none_changes, null_set, ill_set, pair_unset, null_unset, ill_unset, none_in_window, ends_within, none_inside}
 use Rattle.cesu8_decode.proofs.decoder.EventsDecoded.{plain_at, no_lone_lead, null_wide, null_at_decoded, replaced_at}
 use Rattle.cesu8_bytes.specs.Packing.{written_for, written}
 
@@ -187,21 +187,18 @@ module _ (f : Flavor) (bytes : List ℕ) (at : ℕ) (window : Window) (is : IsWi
   packed = null_packed bytes at window.nulls
 
   fine_at : (i : ℕ) → at ≤ i → i < at + window.len → is_ill_formed_at f (window_of bytes) i ≡ false
-  fine_at i low inside = ill_unset Lossy is long i low inside (ap (λ m. bit_at m (i - at)) none ∙ bit_at-zero (i - at))
+  fine_at = none_in_window f bytes at window is none
 
   pair_none : (i : ℕ) → at ≤ i → i < at + window.len → is_pair_at f bytes i ≡ false
-  pair_none i low inside = pair_unset Lossy is long i low inside (ap (λ m. bit_at m (i - at)) no_pairs ∙ bit_at-zero (i - at))
+  pair_none i low inside = pair_unset is i low inside (ap (λ m. bit_at m (i - at)) no_pairs ∙ bit_at-zero (i - at))
 
   null_none : (i : ℕ) → i < window.len → bit_at window.nulls i ≡ 0 → is_null_at f bytes (at + i) ≡ false
   null_none i inside unset =
       let there : at + i - at ≡ i = omega arith in
-      null_unset Lossy is long (at + i) (omega arith) (omega arith) (ap (bit_at window.nulls) there ∙ unset)
+      null_unset is (at + i) (omega arith) (omega arith) (ap (bit_at window.nulls) there ∙ unset)
 
   next_bit : (i : ℕ) → i < 64 → bit_at window.nulls i ≡ 0 → bit_at left_out (i + 1) ≡ 0
-  next_bit i small unset =
-      ⊎_elim (λ (inside : i + 1 < 64). shifted_next window.nulls (i + 1) i inside refl ∙ unset)
-      (λ (past : 64 ≤ i + 1). bit_at_above left_out 64 (i + 1) (omega arith) past)
-      (cases_lt (i + 1) 64)
+  next_bit i small unset = grind (arith, nat_tests, shifted_next, bit_at_above)
 
   stays_packed : (i : ℕ) → bit_at left_out i ≡ 0 → byte i ≢ 0xC0 → packed i ≡ byte i ∷ []
   stays_packed i unset other = rw (unset, ne_eqb (byte i) 0xC0 other) refl
@@ -220,13 +217,13 @@ module _ (f : Flavor) (bytes : List ℕ) (at : ℕ) (window : Window) (is : IsWi
   packed_from zero (suc r) i few there clear before = absurd (omega arith)
   packed_from (suc m) (suc r) i few there clear before =
       ⊎_elim (λ (set : bit_at window.nulls i ≡ 1).
-      let begins = null_set Lossy is long i set in
+      let begins = null_set is i set in
       let fits : at + i + 2 ≤ length bytes = omega (arith, long, begins.0, is.len) in
       let wide = null_wide f bytes (at + i) fits begins.1 in
-      let within = ends_within Lossy is long i 2 (omega arith) wide begins.0 in
+      let within = ends_within is i 2 (omega arith) wide begins.0 in
       let next : bit_at window.nulls (i + 1) ≡ 0 = unset window.nulls (i + 1) (λ set.
-      true≢false (sym (null_set Lossy is long (i + 1) set).1
-      ∙ (none_changes Lossy is long (at + (i + 1)) (none_inside Lossy is long i 2 (omega arith) wide begins.0 (i + 1) (omega arith) (omega arith))).1)) in
+      true≢false (sym (null_set is (i + 1) set).1
+      ∙ (none_changes is (at + (i + 1)) (none_inside is i 2 (omega arith) wide begins.0 long (i + 1) (omega arith) (omega arith))).1)) in
       let all : 2 + (r - 1) ≡ suc r = omega arith in
       let after : at + (i + 2) ≡ at + i + 2 = omega arith in
       let second : i + 1 + 1 ≡ i + 2 = omega arith in
@@ -274,9 +271,9 @@ module _ (f : Flavor) (bytes : List ℕ) (at : ℕ) (window : Window) (is : IsWi
       let there : i ≡ i - 1 + 1 = omega (arith, later) in
       ap (bit_at left_out) there
       ∙ next_bit (i - 1) (omega arith) (unset window.nulls (i - 1) (λ set.
-      let begins = null_set Lossy is long (i - 1) set in
+      let begins = null_set is (i - 1) set in
       let fits : at + (i - 1) + 2 ≤ length bytes = omega (arith, long, begins.0, is.len) in
-      omega (arith, later, past, ends_within Lossy is long (i - 1) 2 (omega arith) (null_wide f bytes (at + (i - 1)) fits begins.1) begins.0))))
+      omega (arith, later, past, ends_within is (i - 1) 2 (omega arith) (null_wide f bytes (at + (i - 1)) fits begins.1) begins.0))))
       (cases_eq i 0) in
       ap length (written_clear clear)
     where
@@ -331,16 +328,16 @@ module _ (f : Flavor) (bytes : List ℕ) (at : ℕ) (window : Window) (is : IsWi
   stored_at : (i : ℕ) → i < window.len → stored i ≡ decoded_at f (window_of bytes) (at + i)
   stored_at i inside =
       ⊎_elim (λ (set : bit_at window.ill_formed i ≡ 1).
-      replaced_one i set ∙ replaced_at f bytes (at + i) (ill_set Lossy is long i set).1)
+      replaced_one i set ∙ replaced_at f bytes (at + i) (ill_set is i set).1)
       (λ (other : ¬ (bit_at window.ill_formed i ≡ 1)).
       let clear = unset window.ill_formed i other in
       let there : at + i - at ≡ i = omega arith in
       let unset_in = λ (mask : ℕ) (none : mask ≡ 0) (i : ℕ). ap (λ m. bit_at m (i - at)) none ∙ bit_at-zero (i - at) in
-      let nullless = λ (i : ℕ) (low : at ≤ i) (inside : i < at + window.len). null_unset Lossy is long i low inside (unset_in window.nulls no_nulls i) in
+      let nullless = λ (i : ℕ) (low : at ≤ i) (inside : i < at + window.len). null_unset is i low inside (unset_in window.nulls no_nulls i) in
       kept_one i clear
-      ∙ sym (plain_at f bytes at window.len boundary (λ i low inside. pair_unset Lossy is long i low inside (unset_in window.pairs no_pairs i)) (at + i) (omega arith) (omega arith)
+      ∙ sym (plain_at f bytes at window.len boundary (λ i low inside. pair_unset is i low inside (unset_in window.pairs no_pairs i)) (at + i) (omega arith) (omega arith)
       (nullless (at + i) (omega arith) (omega arith)) (λ j low there. nullless j low (omega arith))
-      (ill_unset Lossy is long (at + i) (omega arith) (omega arith) (ap (bit_at window.ill_formed) there ∙ clear))))
+      (ill_unset is (at + i) (omega arith) (omega arith) (ap (bit_at window.ill_formed) there ∙ clear))))
       (cases_eq (bit_at window.ill_formed i) 1)
 
   stored_all : flat_map stored (range_with_len 0 window.len) ≡ decoded f (window_of bytes) at window.len
@@ -352,7 +349,7 @@ module _ (f : Flavor) (bytes : List ℕ) (at : ℕ) (window : Window) (is : IsWi
   one_stored : (i : ℕ) → window.len ≤ i → length (stored i) ≡ 1
   one_stored i past =
       ap length (kept_one i (unset window.ill_formed i (λ set.
-      omega (arith, past, is.len, (ill_set Lossy is long i set).0))))
+      omega (arith, past, is.len, (ill_set is i set).0))))
 
   module _ (m end last : ℕ) (old new : List ℕ) (covered : window.len ≤ m) (text : WritesAt (flat_map stored (range_with_len 0 m)) end old new last) where
     -- At least as many bytes are stored as there are offsets after the window.
@@ -366,10 +363,7 @@ module _ (f : Flavor) (bytes : List ℕ) (at : ℕ) (window : Window) (is : IsWi
         ((cut_back stored window.len m end last old new covered (λ i past inside. one_stored i past) text).1 room)
 
   ill_fits : window.ill_formed < 2 ^ 64
-  ill_fits =
-      let t = is_ill_formed_at f (window_of bytes) in
-      let bits = ap (λ k. 2 ^ k) (length-map-range_with_len t at is.n) in
-      omega (arith, is.ill_formed, mask_l-lt (map t (range_with_len at is.n)), bits, pow_mono is.few)
+  ill_fits = marks_fit (is_ill_formed_at f (window_of bytes)) at is.n is.few is.ill_formed
 
   -- The next sixteen bytes are stored after those before them.
   pub half_written : (k end middle last : ℕ) (half old mid new : List ℕ) → k + 16 ≤ 64 → half ≡ chunk (at + k) 16 bytes →

@@ -27,9 +27,7 @@ kept_by set = kept_of 0 set 0 4
 -- Each row of the table is the shuffle for its number.
 pub rows_are : (set : ℕ) → set < 0x10 → get_or ROWS set [] ≡ shuffle_keeping (kept_of 0 set 0 4)
 unfolding same_list same_rows
-rows_are set small =
-    same_list_is (get_or ROWS set []) (shuffle_keeping (kept_by set))
-    (agree_below_at (same_rows ROWS (λ set. shuffle_keeping (kept_by set))) (λ _. true) 0x10 set refl small)
+rows_are set small = grind (arith, same_list_is, agree_below_at, same_rows)
 
 few_of_four : (set : ℕ) → set < 0x100 → length (kept_by set) ≤ 12
 unfolding is_short
@@ -51,11 +49,7 @@ HasFour lanes four = (chunk 0 4 lanes ≡ four) × (chunk 4 3 lanes ≡ 0xEF ∷
 
 kept_is : (lanes four : List ℕ) (set : ℕ) (flags : List Bool) → HasFour lanes four → length flags ≡ 4 → set ≡ mask_l flags →
     lanes_at lanes (kept_of 0 set 0 4) ≡ written (replicate 4 false) flags four
-kept_is lanes four set flags has long set_is =
-    let room : 7 ≤ length lanes = omega (arith, ap length has.1, length-take 3 (drop 4 lanes), length-drop 4 lanes) in
-    lanes_written 4 0 set lanes (replicate 4 false) flags refl long refl set_is
-    (pick_l-range_with_len 0 lanes 0 4 (omega arith)) (λ _. pick_l-range_with_len 0 lanes 4 3 (omega arith) ∙ has.1)
-    ∙ ap (written (replicate 4 false) flags) has.0
+kept_is lanes four set flags has long set_is = grind (arith, length-take, length-drop, lanes_written, pick_l-range_with_len)
 
 chunk_take : (a n m : ℕ) (xs : List Bool) → a + n ≤ m → chunk a n (take m xs) ≡ chunk a n xs
 chunk_take a n m xs le =

@@ -17,7 +17,8 @@ use Rattle.cesu8_decode.proofs.decoder.BlocksInPlace.{windows_alike}
 use Rattle.cesu8_decode.proofs.decoder.FormMasks.{map_alike}
 use Rattle.cesu8_decode.proofs.decoder.MaskBits.{and_bits, without_bits, no_bits, told_by, dropped, marks_from, bits_from, no_marks}
 use Rattle.cesu8_decode.proofs.decoder.MaskTests.{pair_alone, pair_width, no_null_of}
-use Rattle.cesu8_decode.proofs.decoder.WindowEnds.{ends_at_zero, boundary_at_zero}
+use Rattle.cesu8_decode.proofs.by_offset.CharacterBoundaries.{boundary_at_zero}
+use Rattle.cesu8_decode.proofs.decoder.WindowEnds.{ends_at_zero}
 
 -- Bytes with zeros after them agree with the bytes at every offset, also after their end.
 pub alike_with_zeros : (bytes source : List ℕ) (m : ℕ) → source ≡ bytes ++ replicate m 0 → (k : ℕ) → get_or source k 0 ≡ get_or bytes k 0
@@ -26,10 +27,7 @@ alike_with_zeros bytes source m is k = ap (λ bs. get_or bs k 0) is ∙ padded b
 -- Bytes without the zeros at their end agree with the bytes at every offset.
 pub alike_without_zeros : (source : List ℕ) (n : ℕ) → n ≤ length source → ((i : ℕ) → n ≤ i → get_or source i 0 ≡ 0) → (k : ℕ) →
     get_or (take n source) k 0 ≡ get_or source k 0
-alike_without_zeros source n fits zeros k =
-    ⊎_elim (λ (inside : k < n). get_or-take n source k 0 inside)
-    (λ (past : n ≤ k). get_or_past (take n source) k 0 (omega (arith, past, length-take-le n source fits)) ∙ sym (zeros k past))
-    (cases_lt k n)
+alike_without_zeros source n fits zeros k = grind (arith, nat_tests, get_or-take, get_or_past, length-take-le)
 
 -- A window of all bytes ends at their end.
 pub ends_with_bytes : (f : Flavor) (bytes : List ℕ) (window : Window) (is : IsWindow f bytes 0 window) → is.n ≡ length bytes → window.len ≡ length bytes
@@ -66,19 +64,13 @@ window_of_alike f a b at window alike is = record {
 
 -- At the start of C0 80 no surrogate pair begins, since the first bytes differ.
 pair_not_null : (f : Flavor) (bytes : List ℕ) (i : ℕ) → is_pair_at f bytes i ≡ true → is_null_at f bytes i ≡ false
-pair_not_null f bytes i pair =
-    let b = λ (k : ℕ). get_or bytes k 0 in
-    (pair_alone f (b i) (b (i + 1)) (b (i + 2)) (b (i + 3)) (b (i + 4)) (b (i + 5))
-    (sym (pair_width f (b i) (b (i + 1)) (b (i + 2)) (b (i + 3)) (b (i + 4)) (b (i + 5))) ∙ pair)).1
+pair_not_null f bytes i pair = grind (arith, nat_tests, pair_alone, pair_width)
 
 pair_lead : (a b d e g h : ℕ) → pair_at a b d e g h ≡ true → eqb a 0xC0 ≡ false
 pair_lead a b d e g h pair = grind (arith, nat_tests)
 
 pair_not_c0 : (f : Flavor) (bytes : List ℕ) (i : ℕ) → is_pair_at f bytes i ≡ true → eqb (get_or bytes i 0) 0xC0 ≡ false
-pair_not_c0 f bytes i pair =
-    let b = λ (k : ℕ). get_or bytes k 0 in
-    pair_lead (b i) (b (i + 1)) (b (i + 2)) (b (i + 3)) (b (i + 4)) (b (i + 5))
-    (sym (pair_width f (b i) (b (i + 1)) (b (i + 2)) (b (i + 3)) (b (i + 4)) (b (i + 5))) ∙ pair)
+pair_not_c0 f bytes i pair = grind (arith, nat_tests, pair_lead, pair_width)
 
 null_lead : (f : Flavor) (a b : ℕ) → null_at f a b ≡ true → eqb a 0xC0 ≡ true
 null_lead f a b null = grind (arith, nat_tests)
@@ -115,9 +107,7 @@ module _ (f : Flavor) (bytes : List ℕ) (changed : ℕ) (given : AreChanges f b
 
   -- CESU-8 has no C0 80.
   pub no_nulls_of_changed : (f ≡ Mutf8 → ⊥) → HasBits 0 (λ i. ltb i n && is_null_at f bytes (0 + i))
-  no_nulls_of_changed other =
-      told_by (λ i. ltb i n && is_null_at f bytes (0 + i))
-      (λ i. sym (ap (λ t. ltb i n && t) (no_null_of f (get_or bytes (0 + i) 0) (get_or bytes (0 + i + 1) 0) other) ∙ dropped (ltb i n))) no_bits
+  no_nulls_of_changed other = grind (arith, nat_tests, told_by, no_null_of, dropped, no_bits)
 
   -- The others are surrogate pairs, and no byte of the window is ill-formed.
   pub changed_is_window : (nulls : ℕ) → n ≤ 64 → changed < 2 ^ 64 → nulls < 2 ^ 64 → HasBits nulls (λ i. ltb i n && is_null_at f bytes (0 + i)) →

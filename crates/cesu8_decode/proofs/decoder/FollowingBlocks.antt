@@ -1,5 +1,5 @@
 -- Which bytes of a block can follow the bytes before them.
-use Rattle.std.proofs.Common.{◌≡◌, ℕ, suc, ◌+◌, ◌<◌, ◌≤◌, ◌||◌, ⊎_elim, Bool, true, false, cond, List, [], ◌∷◌, map, length, get_or, replicate, eqb, leb, ltb, bit_or, refl, sym, ap, ◌∙◌, subst, arith, drop, ◌-◌, ◌++◌, not, add-zero, take}
+use Rattle.std.proofs.Common.{◌≡◌, ℕ, ◌+◌, ◌<◌, ◌≤◌, ◌||◌, ⊎_elim, Bool, true, false, cond, List, [], ◌∷◌, map, length, get_or, replicate, eqb, leb, ltb, bit_or, refl, sym, ap, ◌∙◌, subst, arith, drop, ◌-◌, ◌++◌, not, add-zero, take}
 use Rattle.std.specs.List.{range_with_len, prefix_len}
 use Rattle.std.proofs.lemmas.Bool.{agree_below_at, leb-false, ltb-true, not-false, not-true, or_parts, cases_lt}
 use Rattle.std.proofs.lemmas.Bool.Decides.{nat_tests}
@@ -36,9 +36,7 @@ abbrev pub marked_if_not_one : Flavor → ℕ → ℕ
 marked_if_not_one f b = bit_or b (cond (is_null f b) 0xFF 0)
 
 low_lane : (f : Flavor) (b : ℕ) → leb 0x80 (marked_if_not_one f b) ≡ false → (b < 0x80) × (is_null f b ≡ false)
-low_lane f b low =
-    let parts = or_parts _ _ (sym (high_or b (mask (is_null f b))) ∙ low) in
-    (leb-false 0x80 b parts.0, sym (of_mask (is_null f b)) ∙ parts.1)
+low_lane f b low = grind (arith, nat_tests, or_parts, high_or, leb-false, of_mask)
 
 ascii_fits : (s : CharacterSet) (f : Flavor) (a b d e g : ℕ) → a < 0x80 → b < 0x80 → d < 0x80 → e < 0x80 → g < 0x80 → is_null f g ≡ false →
     follows s f a b d e g ≡ true
@@ -189,20 +187,14 @@ module _ (s : CharacterSet) (f : Flavor) (window : List ℕ) (at n len : ℕ) (l
 -- Whether a byte can follow depends on five bytes.
 pub follows_agrees : (s : CharacterSet) (f : Flavor) (a b : List ℕ) (i j : ℕ) → ((k : ℕ) → k < 5 → get_or a (i + k) 0 ≡ get_or b (j + k) 0) →
     follows_at s f a i ≡ follows_at s f b j
-follows_agrees s f a b i j agree =
-    let first : get_or a i 0 ≡ get_or b j 0 = ap (λ p. get_or a p 0) (sym (add-zero i)) ∙ agree 0 (omega arith) ∙ ap (λ p. get_or b p 0) (add-zero j) in
-    (λ k. follows s f (first k) (agree 1 (omega arith) k) (agree 2 (omega arith) k) (agree 3 (omega arith) k) (agree 4 (omega arith) k))
+follows_agrees s f a b i j agree = grind (arith, nat_tests, add-zero)
 
 pub behind_fillers : (bytes : List ℕ) (i : ℕ) → get_or (after_fillers bytes) (i + 4) 0 ≡ get_or bytes i 0
-behind_fillers bytes i =
-    let offset : i + 4 ≡ suc (suc (suc (suc i))) = omega arith in
-    ap (λ p. get_or (after_fillers bytes) p 0) offset
+behind_fillers bytes i = grind (arith, nat_tests)
 
 -- Whether a byte can follow is the same in the bytes and after the four zeros.
 pub follows_behind : (s : CharacterSet) (f : Flavor) (bytes : List ℕ) (i : ℕ) → follows_at s f (after_fillers bytes) (i + 4) ≡ follows_at s f bytes i
-follows_behind s f bytes i =
-    follows_agrees s f (after_fillers bytes) bytes (i + 4) i (λ k few.
-    let there : i + 4 + k ≡ i + k + 4 = omega arith in ap (λ p. get_or (after_fillers bytes) p 0) there ∙ behind_fillers bytes (i + k))
+follows_behind s f bytes i = grind (arith, nat_tests, follows_agrees, behind_fillers)
 
 -- ---- a prefix
 

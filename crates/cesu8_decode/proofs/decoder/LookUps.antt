@@ -84,10 +84,7 @@ module _ (lanes : List ℕ) (long : length lanes ≡ 32) where
 
     -- A look-up gives the entry for each lane.
     pub entries : found ≡ map (λ lane. get_or table (lane % 16) 0) lanes
-    entries =
-        let found_long = length-swz_l w8 16 (pick_l 0 (table ++ table) twice) 0 (halves lanes) ∙ halves_long in
-        same_number_lists found _ (found_long ∙ sym (length-map lanes (λ lane. get_or table (lane % 16) 0) ∙ long))
-        (λ k small. entry_at k (omega (arith, small, found_long)))
+    entries = grind (arith, nat_tests, length-swz_l, halves_long, same_number_lists, length-map, entry_at)
 
 -- ---- three look-ups
 

@@ -1,15 +1,16 @@
 -- Operations on masks, by the tests that their bits represent.
 use Rattle.std.proofs.Common.{◌≡◌, ℕ, ◌+◌, ◌-◌, ◌*◌, ◌/◌, ◌%◌, ◌^◌, ◌<◌, ◌≤◌, min, max, Bool, cond, true, false, not, ◌&&◌, ◌||◌, leb, ltb, ⊎_elim, List, map, length, get_or, bit_and, bit_or, pow-add, add_comm, one-mul, zero-mul, zero-add, add-zero, mod-eq_of_lt, mod-lt, refl, sym, ap, ◌∙◌, arith, Fits, w8, w64, replicate}
-use Rattle.std.specs.Int.{bit_at, bit_not}
+use Rattle.std.specs.Int.{bit_at, bit_not, trailing_ones}
+use Rattle.std.specs.Int.Count.{trailing_of_zero}
 use Rattle.std.specs.List.{range_with_len}
-use Rattle.std.proofs.Math.Nat.{div-div-eq-div-mul}
-use Rattle.std.proofs.Math.Pow.{pow-lt}
-use Rattle.std.proofs.lemmas.Bool.{cases_lt, le-ltb, lt-ltb, le-leb, lt-leb}
+use Rattle.std.proofs.Math.Nat.{div-div-eq-div-mul, div-le_self}
+use Rattle.std.proofs.Math.Pow.{pow-lt, pow_mono}
+use Rattle.std.proofs.lemmas.Bool.{and_parts, ltb-true, cases_lt, le-ltb, lt-ltb, le-leb, lt-leb}
 use Rattle.std.proofs.lemmas.List.{get_or-map, get_or_past, length-map}
 use Rattle.std.proofs.lemmas.List.FromFn.{get_or-map-range_with_len, length-map-range_with_len}
 use Rattle.std.proofs.lemmas.Nat.{pow_pos, and_mask}
-use Rattle.std.proofs.lemmas.Nat.Bits.{bit_at-zero, bit_at_and, bit_at_or, bit_at_not, bit_at_ones, bit_at_ones_above, bit_at_above, bit_at_cat_low, bit_at_cat_high, bit_at-lt, same_from_bits}
-use Rattle.std.proofs.lemmas.Simd.{bit_mask_l, Each1-get_or, zip2_splat, map-map}
+use Rattle.std.proofs.lemmas.Nat.Bits.{bit_at-trailing_ones, bit_at-zero, bit_at_and, bit_at_or, bit_at_not, bit_at_ones, bit_at_ones_above, bit_at_above, bit_at_cat_low, bit_at_cat_high, bit_at-lt, same_from_bits}
+use Rattle.std.proofs.lemmas.Simd.{bit_mask_l, mask_l-lt, Each1-get_or, zip2_splat, map-map}
 use lib.Lanes.{mask_l, zip2, Each1}
 use Rattle.cesu8_decode.specs.Masks.{HasBits, has_bit_below}
 
@@ -29,6 +30,9 @@ outside s t n is none = grind arith
 
 pub unset : (t : Bool) (n : ℕ) → n ≡ cond t 1 0 → n ≡ 0 → t ≡ false
 unset t n is none = grind arith
+
+pub set_true : (t : Bool) (n : ℕ) → n ≡ cond t 1 0 → n ≡ 1 → t ≡ true
+set_true t n is one = grind arith
 
 zero_min : (n m : ℕ) → n ≡ 0 → min n m ≡ n
 zero_min n m none = omega arith
@@ -70,15 +74,40 @@ without_bits {a = a} {b = b} {p = p} {q = q} small_a small_b h k = record {
 }
 
 pub bit_shifted : (a k i : ℕ) → bit_at (a / 2 ^ k) i ≡ bit_at a (i + k)
-bit_shifted a k i =
-    let steps : 2 ^ k * 2 ^ i ≡ 2 ^ (i + k) = sym (pow-add 2 k i) ∙ ap (λ n. 2 ^ n) (add_comm k i) in
-    ap (λ n. n % 2) (div-div-eq-div-mul a (2 ^ k) (2 ^ i) ∙ ap (λ n. a / n) steps)
+bit_shifted a k i = grind (arith, pow-add, add_comm, div-div-eq-div-mul)
+
+-- From an offset on, as many bits are set in a row as `trailing_ones` returns.
+module _ (word next : ℕ) (fits : word < 2 ^ 64) where
+  abbrev rest : ℕ
+  rest = word / 2 ^ next
+
+  pub rest_bit : (k : ℕ) → bit_at rest k ≡ bit_at word (next + k)
+  rest_bit k = bit_shifted word next k ∙ ap (bit_at word) (add_comm k next)
+
+  pub run_ones : (i : ℕ) → next ≤ i → i < next + trailing_ones w64 rest → bit_at word i ≡ 1
+  run_ones i low inside =
+      let there : next + (i - next) ≡ i = omega arith in
+      ap (bit_at word) (sym there) ∙ sym (rest_bit (i - next))
+      ∙ ⊎_elim (λ (some : rest + 1 < 2 ^ 64). (bit_at-trailing_ones w64 rest some).2 (i - next) (omega arith))
+      (λ (all : 2 ^ 64 ≤ rest + 1).
+      let is : rest ≡ 2 ^ 64 - 1 = omega (arith, div-le_self word (2 ^ next)) in
+      ap (λ m. bit_at m (i - next)) is
+      ∙ bit_at_ones 64 (i - next) (omega (arith, ap (trailing_ones w64) is, trailing_of_zero 64)))
+      (cases_lt (rest + 1) (2 ^ 64))
+
+  pub run_ends : bit_at word (next + trailing_ones w64 rest) ≡ 0
+  run_ends =
+      ⊎_elim (λ (some : rest + 1 < 2 ^ 64). sym (rest_bit (trailing_ones w64 rest)) ∙ (bit_at-trailing_ones w64 rest some).1)
+      (λ (all : 2 ^ 64 ≤ rest + 1).
+      let is : rest ≡ 2 ^ 64 - 1 = omega (arith, div-le_self word (2 ^ next)) in
+      bit_at_above word 64 (next + trailing_ones w64 rest) fits (omega (arith, ap (trailing_ones w64) is, trailing_of_zero 64)))
+      (cases_lt (rest + 1) (2 ^ 64))
 
 -- The bits of a >> k pass the test k places later.
 pub later_bits : {a : ℕ} {p : ℕ → Bool} (k : ℕ) → HasBits a p → HasBits (a / 2 ^ k) (λ i. p (i + k))
 later_bits {a = a} k h = record { bit = λ i. bit_shifted a k i ∙ h.bit (i + k) }
 
-bit_kept : (n i : ℕ) → i < 64 → bit_at (n % 2 ^ 64) i ≡ bit_at n i
+pub bit_kept : (n i : ℕ) → i < 64 → bit_at (n % 2 ^ 64) i ≡ bit_at n i
 bit_kept n i small =
     ap (λ m. bit_at m i) (sym (and_mask n 64)) ∙ bit_at_and n (2 ^ 64 - 1) i
     ∙ omega (arith, bit_at_ones 64 i small, bit_at-lt n i)
@@ -119,9 +148,7 @@ first_have_bits n = record {
 
 -- The power of two as the code computes it.
 pub power_less_one : (n : ℕ) → n < 64 → 1 * 2 ^ n % 2 ^ 64 - 1 ≡ 2 ^ n - 1
-power_less_one n few =
-    let small : 2 ^ n < 2 ^ 64 = pow-lt few in
-    ap (λ m. m - 1) (ap (λ m. m % 18446744073709551616) (one-mul (2 ^ n)) ∙ mod-eq_of_lt small)
+power_less_one n few = grind (arith, pow-lt, one-mul, mod-eq_of_lt)
 
 -- A test can be replaced by one that agrees with it.
 pub told_by : {a : ℕ} {p : ℕ → Bool} (q : ℕ → Bool) → ((i : ℕ) → p i ≡ q i) → HasBits a p → HasBits a q
@@ -159,12 +186,7 @@ class_bits class xs none is = told_by (λ i. class (get_or xs i 0)) same (class_
 
 -- A test of n offsets, by index.
 range_tested : (test : ℕ → Bool) (at n i : ℕ) → get_or (map test (range_with_len at n)) i false ≡ (ltb i n && test (at + i))
-range_tested test at n i =
-    ⊎_elim (λ (inside : i < n). get_or-map-range_with_len test at n i (at + i) false inside refl ∙ ap (λ t. t && test (at + i)) (sym (lt-ltb i n inside)))
-    (λ (past : n ≤ i).
-    get_or_past (map test (range_with_len at n)) i false (omega (arith, length-map-range_with_len test at n))
-    ∙ ap (λ t. t && test (at + i)) (sym (le-ltb i n past)))
-    (cases_lt i n)
+range_tested test at n i = grind (arith, get_or-map-range_with_len, lt-ltb, get_or_past, length-map-range_with_len, le-ltb)
 
 pub marks_from : (test : ℕ → Bool) (at n : ℕ) {a : ℕ} → HasBits a (λ i. ltb i n && test (at + i)) →
     a ≡ mask_l (map test (range_with_len at n))
@@ -178,6 +200,30 @@ pub bits_from : (test : ℕ → Bool) (at n : ℕ) {a : ℕ} → a ≡ mask_l (m
 bits_from test at n is = record {
   bit = λ i. ap (λ m. bit_at m i) is ∙ bit_mask_l (map test (range_with_len at n)) i ∙ ap (λ t. cond t 1 0) (range_tested test at n i);
 }
+
+-- A mask of at most 64 offsets fits 64 bits.
+pub marks_fit : (test : ℕ → Bool) (at n : ℕ) {a : ℕ} → n ≤ 64 → a ≡ mask_l (map test (range_with_len at n)) → a < 2 ^ 64
+marks_fit test at n few marks =
+    omega (arith, marks, mask_l-lt (map test (range_with_len at n)), ap (λ k. 2 ^ k) (length-map-range_with_len test at n), pow_mono few)
+
+module _ (mask : ℕ) (test : ℕ → Bool) (at n : ℕ) (marks : mask ≡ mask_l (map test (range_with_len at n))) where
+  -- A bit that is set marks an offset that passes the test.
+  pub marked : (i : ℕ) → bit_at mask i ≡ 1 → (i < n) × (test (at + i) ≡ true)
+  marked i set =
+      let parts = and_parts (ltb i n) (test (at + i)) (set_true _ _ ((bits_from test at n marks).bit i) set) in
+      (ltb-true i n parts.0, parts.1)
+
+  -- A bit that is not set marks an offset that fails the test.
+  pub unmarked : (i : ℕ) → bit_at mask i ≡ 0 → i < n → test (at + i) ≡ false
+  unmarked i none inside = ap (λ t. t && test (at + i)) (sym (lt-ltb i n inside)) ∙ unset _ _ ((bits_from test at n marks).bit i) none
+
+  -- If no later offset passes the test, an offset whose bit is not set fails it.
+  pub unmarked_in : (end : ℕ) → ((i : ℕ) → at + n ≤ i → i < end → test i ≡ false) → (i : ℕ) → at ≤ i → i < end → bit_at mask (i - at) ≡ 0 → test i ≡ false
+  unmarked_in end later i low inside none =
+      let there : at + (i - at) ≡ i = omega arith in
+      ⊎_elim (λ (begins : i - at < n). ap test (sym there) ∙ unmarked (i - at) none begins)
+      (λ (past : n ≤ i - at). later i (omega arith) inside)
+      (cases_lt (i - at) n)
 
 -- A mask limited to the first n bits marks the offsets among them that pass.
 pub marks_first : (test : ℕ → Bool) (n : ℕ) {a b : ℕ} {p : ℕ → Bool} → HasBits a p → HasBits b (λ i. ltb i n) →
@@ -210,9 +256,7 @@ none_set {a = a} {p = p} is h i = unset (p i) (bit_at a i) (h.bit i) (ap (λ n. 
 
 -- Each lane is less than 100 (hexadecimal), and so are the zeros after the lanes.
 pub lanes_below : (xs : List ℕ) → Each1 (Fits w8) xs → (i : ℕ) → get_or xs i 0 < 256
-lanes_below xs fit i =
-    ⊎_elim (λ (inside : i < length xs). (Each1-get_or (Fits w8) xs i 0 inside fit).fits)
-    (λ (past : length xs ≤ i). omega (arith, get_or_past xs i 0 past)) (cases_lt i (length xs))
+lanes_below xs fit i = grind (arith, Each1-get_or, get_or_past)
 
 -- A shift of each lane makes a lower bit the highest.
 pub shifted_bits : (xs : List ℕ) (n below : ℕ) {a : ℕ} → length xs ≡ n →

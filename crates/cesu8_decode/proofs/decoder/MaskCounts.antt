@@ -116,18 +116,11 @@ saved_by_masks f bytes k n masks are =
 -- ---- vectors of bytes
 
 zeros : (n k : ℕ) → get_or {A = ℕ} (replicate n 0) k 0 ≡ 0
-zeros n k =
-    let none : List ℕ = replicate n 0 in
-    ⊎_elim (λ (inside : k < n). get_or-replicate n k 0 0 inside)
-    (λ (past : n ≤ k). get_or_past none k 0 (omega (arith, length-replicate {A = ℕ} n 0))) (cases_lt k n)
+zeros n k = grind (arith, nat_tests, get_or-replicate, get_or_past, length-replicate)
 
 -- Bytes with zeros after them agree with the bytes at every offset.
 pub with_zeros : (bytes : List ℕ) (n k : ℕ) → get_or (bytes ++ replicate n 0) k 0 ≡ get_or bytes k 0
-with_zeros bytes n k =
-    ⊎_elim (λ (inside : k < length bytes). get_or_append_left bytes (replicate n 0) 0 k inside)
-    (λ (past : length bytes ≤ k).
-    get_or-append_right bytes (replicate n 0) (length bytes) k 0 refl past ∙ zeros n (k - length bytes) ∙ sym (get_or_past bytes k 0 past))
-    (cases_lt k (length bytes))
+with_zeros bytes n k = grind (arith, nat_tests, get_or_append_left, get_or-append_right, zeros, get_or_past)
 
 module _ (f : Flavor) (bytes : List ℕ) where
   -- Bytes with zeros after them save what they save without.

@@ -1,5 +1,5 @@
 -- The masks of classes combined, byte by byte.
-use Rattle.std.proofs.Common.{◌≡◌, ℕ, ◌<◌, ◌≤◌, Bool, true, false, not, ◌&&◌, ◌||◌, eqb, leb, ltb, ⊎_elim, refl, sym, ap, ◌∙◌, arith}
+use Rattle.std.proofs.Common.{◌≡◌, ℕ, ◌<◌, Bool, true, false, not, ◌&&◌, ◌||◌, eqb, leb, ltb, ⊎_elim, refl, sym, ap, ◌∙◌, arith}
 use Rattle.std.proofs.lemmas.Bool.{agree_below_at, cases_Bool, ne_eqb, both_ways}
 use Rattle.std.proofs.lemmas.Bool.Decides.{nat_tests}
 use Rattle.cesu8_text.specs.Encoding.{Flavor, Cesu8, Mutf8}
@@ -105,10 +105,7 @@ module _ (a b d : ℕ) (small_a : a < 256) (small_b : b < 256) where
   pub pair_bits : (e g h : ℕ) → e < 256 → g < 256 →
       pair_by a b d e g h (has_bit_below 3 a) (has_bit_below 2 b) (has_bit_below 3 b) (has_bit_below 3 e) (has_bit_below 2 g) (has_bit_below 3 g)
       ≡ pair_at a b d e g h
-  pair_bits e g h small_e small_g =
-      pair_tests a b d e g h (has_bit_below 2 b) (has_bit_below 3 b) (has_bit_below 2 g) (has_bit_below 3 g) _ _ surrogate_bits
-      (surrogate_tests e g h (has_bit_below 3 e) (has_bit_below 2 g) (three_lead_bit e small_e) (wide_bit g small_g))
-      (wide_bit b small_b) (odd_bit b small_b) (wide_bit g small_g) (odd_bit g small_g)
+  pair_bits e g h small_e small_g = grind (arith, nat_tests, pair_tests, surrogate_bits, surrogate_tests, three_lead_bit, wide_bit, odd_bit)
 
 -- ---- offsets without a lead byte
 
@@ -158,13 +155,7 @@ module _ (f : Flavor) (a b : ℕ) (one : not (one_at f a) ≡ false) where
 -- A surrogate pair passes no other test of a form.
 pub pair_alone : (f : Flavor) (a b d e g h : ℕ) → pair_at a b d e g h ≡ true →
     (one_at f a ≡ false) × (null_at f a b ≡ false) × (two_at a b ≡ false) × (three_at a b d ≡ false)
-pair_alone f a b d e g h pair =
-    let lead : (a ≡ 0xED) × (0xA0 ≤ b) = grind (arith, nat_tests) in
-    let one : one_at f a ≡ false = grind (arith, nat_tests) in
-    let null : null_at f a b ≡ false = grind (arith, nat_tests) in
-    let two : two_at a b ≡ false = grind (arith, nat_tests) in
-    let three : three_at a b d ≡ false = grind (arith, nat_tests) in
-    (one, null, two, three)
+pair_alone f a b d e g h pair = grind (arith, nat_tests)
 
 pub pair_width : (f : Flavor) (a b d e g h : ℕ) → eqb (first_width_by f a b d e g h) 6 ≡ pair_at a b d e g h
 unfolding first_width_by

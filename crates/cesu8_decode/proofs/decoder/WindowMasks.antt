@@ -1,127 +1,31 @@
 -- The events of a window and its end, from the masks of the characters that begin in it.
-use Rattle.std.proofs.Common.{◌≡◌, ℕ, zero, suc, ◌+◌, ◌-◌, ◌*◌, ◌/◌, ◌%◌, ◌^◌, ◌<◌, ◌≤◌, ◌⊎◌, ⊎_elim, inl, inr, Bool, cond, true, false, not, ◌&&◌, ltb, List, [], ◌∷◌, length, get_or, bit_and, bit_or, refl, sym, ap, ◌∙◌, arith, subst, map, mod-lt, w64, zero-add, add-zero}
+use Rattle.std.proofs.Common.{◌≡◌, ℕ, ◌+◌, ◌-◌, ◌*◌, ◌/◌, ◌%◌, ◌^◌, ◌<◌, ◌≤◌, ◌⊎◌, ⊎_elim, inl, inr, Bool, true, false, not, ◌&&◌, ltb, List, length, get_or, bit_and, bit_or, refl, sym, ap, ◌∙◌, arith, mod-lt, w64, zero-add}
 use Rattle.std.specs.Int.{bit_at, bit_not, trailing_ones}
-use Rattle.std.proofs.lemmas.Bool.{cases_lt, cases_eq, cases_Bool, both_ways, le-ltb, eq-eqb}
-use Rattle.std.proofs.lemmas.Bool.Decides.{nat_tests}
-use Rattle.std.specs.List.{range_with_len}
-use Rattle.std.proofs.Math.Nat.{eq-or-lt_of_le}
-use Rattle.std.proofs.Math.Pow.{pow-lt}
+use Rattle.std.proofs.lemmas.Bool.{cases_lt, cases_Bool, both_ways, le-ltb, eq-eqb}
 use Rattle.std.proofs.lemmas.Nat.{or_lt}
 use Rattle.std.proofs.lemmas.List.{get_or_past}
-use Rattle.std.proofs.lemmas.List.FromFn.{length-map-range_with_len}
-use Rattle.std.proofs.lemmas.Simd.{get_or-chunk, length-chunk, mask_l-lt}
+use Rattle.std.proofs.lemmas.Simd.{get_or-chunk, length-chunk}
 use lib.Lanes.{chunk}
-use Rattle.std.proofs.lemmas.Nat.Bits.{bit_at-trailing_ones, bit_at_ones, bit_at_above}
+use Rattle.std.proofs.lemmas.Nat.Bits.{bit_at_above}
 use Rattle.cesu8_text.specs.Encoding.{Flavor}
-use Rattle.cesu8_decode.specs.DecodedOffsets.{one_at, three_at, pair_at, first_width_by, width_at, window_of, is_ill_formed_at, is_boundary_at}
+use Rattle.cesu8_decode.specs.DecodedOffsets.{one_at, width_at, window_of, is_ill_formed_at, is_boundary_at}
 use Rattle.cesu8_decode.specs.Masks.{HasBits, Marks, AreMasks, IsWindow, is_other_at, is_two_at, is_three_at, is_pair_at, is_null_at}
 use Rattle.cesu8_decode.specs.declared.lanes.masks.Masks.{Masks}
 use Rattle.cesu8_decode.specs.declared.lanes.windows.Window.{Window}
-use Rattle.cesu8_decode.proofs.by_offset.WindowOffsets.{follows_zeros, width_agrees}
-use Rattle.cesu8_decode.proofs.by_offset.CharacterBoundaries.{boundary_ends, boundary_where, ends_before, width_bounds}
+use Rattle.cesu8_decode.proofs.by_offset.WindowOffsets.{follows_zeros, width_there}
+use Rattle.cesu8_decode.proofs.by_offset.CharacterBoundaries.{boundary_ends, boundary_where, ends_before, ends_by_zero, width_bounds}
 use Rattle.cesu8_decode.proofs.by_offset.WidthTests.{width_tells}
 use Rattle.cesu8_decode.proofs.by_offset.IllFormed.{reached, not_reached}
-use Rattle.cesu8_decode.proofs.decoder.MaskBits.{bit_shifted, unset, told_by, or_bits, without_bits, marks_from, bits_from}
+use Rattle.cesu8_decode.proofs.decoder.MaskBits.{unset, set_true, run_ones, run_ends, marks_fit, told_by, or_bits, without_bits, marks_from, bits_from}
 use Rattle.cesu8_decode.proofs.decoder.FormMasks.{masks_moved}
-use Rattle.cesu8_decode.proofs.decoder.CoveredMasks.{Forms, forms, covered_by, threes_by, threes_mask, covered_mask, Part, formed, from_covered, to_covered, widths}
+use Rattle.cesu8_decode.proofs.decoder.CoveredMasks.{covered_by, threes_by, threes_mask, covered_mask, Part, formed, from_covered, to_covered}
 
 -- The width at an offset is in the window five bytes later.
-width_there : (f : Flavor) (bytes : List ℕ) (p q : ℕ) → q ≡ p + 5 → width_at f (window_of bytes) q ≡ width_at f bytes p
-width_there f bytes p q is =
-    ap (width_at f (window_of bytes)) is
-    ∙ width_agrees f (window_of bytes) bytes (p + 5) p (λ k small.
-    let offset : p + 5 + k ≡ 5 + (p + k) = omega arith in
-    ap (λ i. get_or (window_of bytes) i 0) offset ∙ follows_zeros bytes (p + k))
+width_at_place : (f : Flavor) (bytes : List ℕ) (p q : ℕ) → q ≡ p + 5 → width_at f (window_of bytes) q ≡ width_at f bytes p
+width_at_place f bytes p q is = ap (width_at f (window_of bytes)) is ∙ width_there f bytes p
 
 not_other : (one covered : Bool) → (one ≡ true) ⊎ (covered ≡ true) → (not one && not covered) ≡ false
 not_other one covered h = grind arith
-
-set_true : (t : Bool) (k : ℕ) → k ≡ cond t 1 0 → k ≡ 1 → t ≡ true
-set_true t k is one = grind arith
-
-less_than_all : (x : ℕ) → x < 2 ^ 64 → bit_at x 5 ≡ 0 → x + 1 < 2 ^ 64
-less_than_all x small none =
-    ⊎_elim (λ (less : x < 2 ^ 64 - 1). omega arith)
-    (λ (all : 2 ^ 64 - 1 ≤ x).
-    let is : x ≡ 2 ^ 64 - 1 = omega arith in
-    absurd (omega (arith, none, ap (λ n. bit_at n 5) is, bit_at_ones 64 5 (omega arith))))
-    (cases_lt x (2 ^ 64 - 1))
-
-pub marks_below : (n a : ℕ) → n ≤ 64 → a < 2 ^ n → a < 2 ^ 64
-marks_below n a few small =
-    ⊎_elim (λ (same : n ≡ 64). subst (λ k. a < 2 ^ k) same small) (λ (less : n < 64). omega (arith, small, pow-lt less)) (eq-or-lt_of_le few)
-
--- ---- zeros after the bytes
-
--- A zero can only be the first byte of a character.
-zero_second : (f : Flavor) (a b d e g h : ℕ) → b ≡ 0 → first_width_by f a b d e g h ≤ 1
-unfolding first_width_by
-zero_second f a b d e g h null = grind (arith, nat_tests)
-
-three_third : (a b d : ℕ) → three_at a b d ≡ true → 0x80 ≤ d
-three_third a b d three = grind (arith, nat_tests)
-
-pair_later : (a b d e g h : ℕ) → pair_at a b d e g h ≡ true → (0x80 ≤ d) × (e ≡ 0xED) × (0xB0 ≤ g) × (0x80 ≤ h)
-pair_later a b d e g h pair = grind (arith, nat_tests)
-
-by_three : (w : ℕ) (one null two three pair : Bool) → Forms w one null two three pair → w ≡ 3 → three ≡ true
-by_three w one null two three pair form is = go form.some
-  where
-    go : ((w ≡ 0) × (one ≡ false)) ⊎ ((one ≡ true) ⊎ ((null ≡ true) ⊎ ((two ≡ true) ⊎ ((three ≡ true) ⊎ (pair ≡ true))))) → three ≡ true
-    go (inl none) = absurd (omega (arith, none.0))
-    go (inr (inl h)) = absurd (omega (arith, form.is_one h))
-    go (inr (inr (inl h))) = absurd (omega (arith, form.is_null h))
-    go (inr (inr (inr (inl h)))) = absurd (omega (arith, form.is_two h))
-    go (inr (inr (inr (inr (inl h))))) = h
-    go (inr (inr (inr (inr (inr h))))) = absurd (omega (arith, form.is_pair h))
-
-zero_third : (f : Flavor) (a b d e g h : ℕ) → d ≡ 0 → first_width_by f a b d e g h ≤ 2
-zero_third f a b d e g h null =
-    let tells = width_tells f a b d e g h in
-    ⊎_elim (λ (low : first_width_by f a b d e g h ≤ 3).
-    ⊎_elim (λ (three : first_width_by f a b d e g h ≡ 3). absurd (omega (arith, three_third a b d (by_three _ _ _ _ _ _ (forms f a b d e g h) three))))
-    (λ (other : ¬ (first_width_by f a b d e g h ≡ 3)). omega (arith, low, other)) (cases_eq (first_width_by f a b d e g h) 3))
-    (λ (six : first_width_by f a b d e g h ≡ 6). absurd (omega (arith, pair_later a b d e g h (tells.3 six)))) tells.0
-
-zero_later : (f : Flavor) (a b d e g h : ℕ) → (e ≡ 0) ⊎ ((g ≡ 0) ⊎ (h ≡ 0)) → first_width_by f a b d e g h ≤ 3
-zero_later f a b d e g h null =
-    let tells = width_tells f a b d e g h in
-    ⊎_elim (λ (low : first_width_by f a b d e g h ≤ 3). low)
-    (λ (six : first_width_by f a b d e g h ≡ 6).
-    let pair = pair_later a b d e g h (tells.3 six) in
-    absurd (⊎_elim (λ (none : e ≡ 0). omega (arith, pair)) (λ (later : (g ≡ 0) ⊎ (h ≡ 0)). ⊎_elim (λ (none : g ≡ 0). omega (arith, pair)) (λ (none : h ≡ 0). omega (arith, pair)) later) null))
-    tells.0
-
-zero_ends : (f : Flavor) (a b d e g h s : ℕ) → 0 < s → s < 6 → get_or (a ∷ b ∷ d ∷ e ∷ g ∷ h ∷ []) s 0 ≡ 0 → first_width_by f a b d e g h ≤ s
-zero_ends f a b d e g h zero some few none = absurd (omega arith)
-zero_ends f a b d e g h (suc zero) some few none = omega (arith, zero_second f a b d e g h none)
-zero_ends f a b d e g h (suc (suc zero)) some few none = omega (arith, zero_third f a b d e g h none)
-zero_ends f a b d e g h (suc (suc (suc zero))) some few none = omega (arith, zero_later f a b d e g h (inl none))
-zero_ends f a b d e g h (suc (suc (suc (suc zero)))) some few none = omega (arith, zero_later f a b d e g h (inr (inl none)))
-zero_ends f a b d e g h (suc (suc (suc (suc (suc zero))))) some few none = omega (arith, zero_later f a b d e g h (inr (inr none)))
-zero_ends f a b d e g h (suc (suc (suc (suc (suc (suc s)))))) some few none = absurd (omega arith)
-
-byte_of_six : (bytes : List ℕ) (i s : ℕ) → s < 6 → let b = λ (k : ℕ). get_or bytes k 0 in
-    get_or (b i ∷ b (i + 1) ∷ b (i + 2) ∷ b (i + 3) ∷ b (i + 4) ∷ b (i + 5) ∷ []) s 0 ≡ b (i + s)
-byte_of_six bytes i zero few = ap (λ k. get_or bytes k 0) (sym (add-zero i))
-byte_of_six bytes i (suc zero) few = refl
-byte_of_six bytes i (suc (suc zero)) few = refl
-byte_of_six bytes i (suc (suc (suc zero))) few = refl
-byte_of_six bytes i (suc (suc (suc (suc zero)))) few = refl
-byte_of_six bytes i (suc (suc (suc (suc (suc zero))))) few = refl
-byte_of_six bytes i (suc (suc (suc (suc (suc (suc s)))))) few = absurd (omega arith)
-
--- A character that begins before a zero ends at or before it.
-pub ends_at_zero : (f : Flavor) (bytes : List ℕ) (i m : ℕ) → i < m → get_or bytes m 0 ≡ 0 → i + width_at f bytes i ≤ m
-ends_at_zero f bytes i m before null =
-    let b = λ (k : ℕ). get_or bytes k 0 in
-    ⊎_elim (λ (crosses : m < i + width_at f bytes i).
-    let six : width_at f bytes i ≤ 6 = ⊎_elim (λ (low : width_at f bytes i ≤ 3). omega arith) (λ (is : width_at f bytes i ≡ 6). omega arith) (width_bounds f bytes i) in
-    let place : i + (m - i) ≡ m = omega arith in
-    let none = byte_of_six bytes i (m - i) (omega arith) ∙ ap b place ∙ null in
-    absurd (omega (arith, zero_ends f (b i) (b (i + 1)) (b (i + 2)) (b (i + 3)) (b (i + 4)) (b (i + 5)) (m - i) (omega arith) (omega arith) none)))
-    (λ (fine : i + width_at f bytes i ≤ m). fine)
-    (cases_lt m (i + width_at f bytes i))
 
 -- ---- windows
 
@@ -142,17 +46,10 @@ module _ (f : Flavor) (bytes : List ℕ) (at n : ℕ) (boundary : is_boundary_at
   ill_apart : (i s : ℕ) → ill i ≡ true → s ≤ i → s < 6 → w (i - s) ≤ s
   ill_apart i s set near small =
       let place : at + i + (5 - s) ≡ at + (i - s) + 5 = omega arith in
-      omega (arith, not_reached f (window_of bytes) (at + i) set (5 - s) (omega arith), width_there f bytes (at + (i - s)) (at + i + (5 - s)) place)
+      omega (arith, not_reached f (window_of bytes) (at + i) set (5 - s) (omega arith), width_at_place f bytes (at + (i - s)) (at + i + (5 - s)) place)
 
   reach_fits : (i : ℕ) → Part f bytes at n 1 i → (s : ℕ) × (s ≤ i) × (i - s < n) × (s < w (i - s)) × (s < 6)
-  reach_fits i part =
-      let reaches = part.reaches in (
-        part.s,
-        part.near,
-        part.begins,
-        omega arith,
-        ⊎_elim (λ (low : w (i - part.s) ≤ 3). omega arith) (λ (six : w (i - part.s) ≡ 6). omega arith) (widths f bytes at n (i - part.s)),
-      )
+  reach_fits i part = grind (arith, width_bounds)
 
   pub not_ill : (i : ℕ) → covered i ≡ true → ill i ≡ false
   not_ill i set =
@@ -167,7 +64,7 @@ module _ (f : Flavor) (bytes : List ℕ) (at n : ℕ) (boundary : is_boundary_at
       absurd (omega (arith, reach, boundary_ends f (window_of bytes) at boundary (i + 5 - s) (omega arith), ap (width_at f (window_of bytes)) place)))
       (λ (later : s ≤ i).
       let place : q ≡ at + (i - s) + 5 = omega (arith, is) in
-      let there = width_there f bytes (at + (i - s)) q place in
+      let there = width_at_place f bytes (at + (i - s)) q place in
       ⊎_elim (λ (some : 0 < s). inr (to_covered f bytes at n (i - s) s i (omega arith) (omega (arith, there, reach)) (omega (arith, there, reach)) (omega arith) small))
       (λ (none : s ≤ 0).
       let same : i - s ≡ i = omega arith in
@@ -244,26 +141,14 @@ module _ (f : Flavor) (bytes : List ℕ) (at n : ℕ) (boundary : is_boundary_at
 
   pub ends_of : (mask : ℕ) → n < 64 → mask < 2 ^ 64 → HasBits mask covered → Ends (trailing_ones w64 (mask / 2 ^ n))
   ends_of mask few fits of_mask =
-      let x = mask / 2 ^ n in
-      let r = trailing_ones w64 x in
-      let told : (i : ℕ) → bit_at x i ≡ cond (covered (n + i)) 1 0 = λ i.
-      let place : i + n ≡ n + i = omega arith in
-      bit_shifted mask n i ∙ of_mask.bit (i + n) ∙ ap (λ j. cond (covered j) 1 0) place in
-      let fifth : bit_at x 5 ≡ 0 = ⊎_elim (λ (set : covered (n + 5) ≡ true). absurd (omega (arith, covered_near (n + 5) set)))
-      (λ (none : covered (n + 5) ≡ false). told 5 ∙ ap (λ t. cond t 1 0) none) (cases_Bool (covered (n + 5))) in
-      let some : x + 1 < 2 ^ 64 = less_than_all x (omega arith) fifth in
-      let ones = bit_at-trailing_ones w64 x some in
+      let r = trailing_ones w64 (mask / 2 ^ n) in
+      let ones : (i : ℕ) → n ≤ i → i < n + r → covered i ≡ true = λ i from to. set_true (covered i) (bit_at mask i) (of_mask.bit i) (run_ones mask n fits i from to) in
       record {
-        inside = λ i from to.
-            let place : n + (i - n) ≡ i = omega arith in
-            ap covered (sym place) ∙ set_true (covered (n + (i - n))) (bit_at x (i - n)) (told (i - n)) (ones.2 (i - n) (omega arith));
-        stop = λ within. unset (covered (n + r)) (bit_at x r) (told r) ones.1;
-        few = ⊎_elim (λ (more : 5 < r). absurd (omega (arith, ones.2 5 more, fifth))) (λ (few : r ≤ 5). few) (cases_lt 5 r);
-        fits = ⊎_elim (λ (more : 64 - n < r).
-            let place : 64 - n + n ≡ 64 = omega arith in
-            let above = bit_shifted mask n (64 - n) ∙ ap (bit_at mask) place ∙ bit_at_above mask 64 64 fits (omega arith) in
-            absurd (omega (arith, ones.2 (64 - n) more, above)))
-            (λ (fits : r ≤ 64 - n). omega arith) (cases_lt (64 - n) r);
+        inside = ones;
+        stop = λ within. unset (covered (n + r)) (bit_at mask (n + r)) (of_mask.bit (n + r)) (run_ends mask n fits);
+        few = ⊎_elim (λ (more : 5 < r). absurd (omega (arith, covered_near (n + 5) (ones (n + 5) (omega arith) (omega arith))))) (λ (few : r ≤ 5). few) (cases_lt 5 r);
+        fits = ⊎_elim (λ (more : 64 < n + r). absurd (omega (arith, run_ones mask n fits 64 (omega arith) more, bit_at_above mask 64 64 fits (omega arith))))
+            (λ (fits : n + r ≤ 64). fits) (cases_lt 64 (n + r));
       }
 
   pub no_ends : n ≡ 64 → Ends 0
@@ -279,11 +164,11 @@ module _ (f : Flavor) (bytes : List ℕ) (at n : ℕ) (boundary : is_boundary_at
         let fits = ends.fits in
         let part = reach_fits i (from_covered f bytes at n i set) in
         let s = part.0 in
-        let there = width_there f bytes (at + (i - s)) (at + (i - s) + 5) refl in
-        let here = width_there f bytes p (p + 5) refl in
+        let there = width_at_place f bytes (at + (i - s)) (at + (i - s) + 5) refl in
+        let here = width_at_place f bytes p (p + 5) refl in
         let inside : p < length bytes = ⊎_elim (λ (within : p < length bytes). within)
         (λ (past : length bytes ≤ p).
-        absurd (omega (arith, ends_at_zero f bytes (at + (i - s)) p (omega (arith, part)) (get_or_past bytes p 0 past), part.3, part.1)))
+        absurd (omega (arith, ends_by_zero f bytes (at + (i - s)) p (omega (arith, part)) (get_or_past bytes p 0 past), part.3, part.1)))
         (cases_lt p (length bytes)) in (
           ⊎_elim (λ (some : 0 < width_at f bytes p).
               absurd (omega (arith, ends_before f (window_of bytes) bytes (at + (i - s)) p (follows_zeros bytes) (omega (arith, part)) inside (omega (arith, here, some)), there, part.3, part.1)))
@@ -300,7 +185,7 @@ module _ (f : Flavor) (bytes : List ℕ) (at n : ℕ) (boundary : is_boundary_at
         (λ (later : 5 ≤ n + r + s).
         let j = n + r + s - 5 in
         let place : at + (n + r) + s ≡ at + j + 5 = omega arith in
-        let there = width_there f bytes (at + j) (at + (n + r) + s) place in
+        let there = width_at_place f bytes (at + j) (at + (n + r) + s) place in
         ⊎_elim (λ (begun : j < n).
         ⊎_elim (λ (crosses : 5 - s < w j).
         let full : n + r ≡ j + (5 - s) = omega arith in
@@ -333,9 +218,9 @@ module _ (f : Flavor) (lanes bytes : List ℕ) (at n r : ℕ) (masks : Masks) (s
   -- Each character that begins at one of the offsets ends within 64 bytes.
   whole : (i : ℕ) → i < n → i + width_at f bytes (at + i) ≤ 64
   whole i inside =
-      ⊎_elim (λ (less : n < 60). ⊎_elim (λ (low : width_at f bytes (at + i) ≤ 3). omega arith) (λ (six : width_at f bytes (at + i) ≡ 6). omega arith) (widths f bytes at n i))
+      ⊎_elim (λ (less : n < 60). omega (arith, width_bounds f bytes (at + i)))
       (λ (many : 60 ≤ n).
-      omega (arith, ends_at_zero f bytes (at + i) (at + 64) (omega arith) (sym (alike 64 (omega arith)) ∙ get_or_past lanes 64 0 short)))
+      omega (arith, ends_by_zero f bytes (at + i) (at + 64) (omega arith) (sym (alike 64 (omega arith)) ∙ get_or_past lanes 64 0 short)))
       (cases_lt n 60)
 
   abbrev threes : ℕ
@@ -348,10 +233,7 @@ module _ (f : Flavor) (lanes bytes : List ℕ) (at n r : ℕ) (masks : Masks) (s
   mask = bit_or (bit_or begins (begins * 2 ^ 1 % 2 ^ 64)) (threes * 2 ^ 2 % 2 ^ 64)
 
   fits : (test : ℕ → Bool) (a : ℕ) → Marks a test at n → a < 2 ^ 64
-  fits test a is =
-      let low = mask_l-lt (map test (range_with_len at n)) in
-      let long : length (map test (range_with_len at n)) ≡ n = length-map-range_with_len test at n in
-      marks_below n a few (subst (λ k. a < 2 ^ k) long (subst (λ m. m < 2 ^ length (map test (range_with_len at n))) (sym is) low))
+  fits test a is = marks_fit test at n few is
 
   shifted_fits : (a k : ℕ) → a * k % 2 ^ 64 < 2 ^ 64
   shifted_fits a k = mod-lt (a * k) (omega arith)

@@ -1,5 +1,8 @@
 //! The two sets of characters that a prefix can consist of, as types: all encoded characters, and
 //! those that are unchanged in UTF-8.
+//!
+//! Tables of error bits say which bytes can follow which. The method and most names of the bits are
+//! those of Keiser and Lemire, "Validating UTF-8 in less than one instruction per byte".
 
 ghost use Rattle.std.specs.Prelude.{◌≡◌, ◌+◌, ◌-◌, ◌≤◌, length, take, drop};
 ghost use Rattle.cesu8_decode.specs.Following.{CharacterSet as AnySet, Encoded as AllEncoded, Unchanged as AllUnchanged, IsBlockAt, rule};
@@ -7,20 +10,9 @@ ghost use Rattle.cesu8_decode.specs.Following.{CharacterSet as AnySet, Encoded a
 use cesu8_bytes::BLOCK;
 use std::simd::prelude::*;
 
-/// The rule of a set: whether it has surrogate pairs and C0 80, and three tables of error bits. The
-/// class of a pair of bytes is the bits that three table entries have in common: by the upper half
-/// of the first byte, by its lower half, and by the upper half of the second. The method is that of
-/// Keiser and Lemire, "Validating UTF-8 in less than one instruction per byte".
-///
-/// Bits 80 and 20 (hexadecimal) are compared with what the earlier bytes require, in `following`. A
-/// set without surrogate pairs never requires 20. Every other bit is an error in the second byte:
-///
-/// - 01, too short: a lead byte is not followed by a continuation byte
-/// - 02, too long: ASCII is followed by a continuation byte
-/// - 04, overlong: E0 is followed by 80 to 9F
-/// - 08, overlong: C1 is followed by a continuation byte
-/// - 10, overlong: C0 is followed by one; `following` clears this bit for C0 80 if the set has it
-/// - 40, too large: F0 or more is followed by any byte
+/// The rule of a set: whether it has surrogate pairs and C0 80, and three tables. The class of a
+/// pair of bytes is the bits that three table entries have in common: by the upper half of the
+/// first byte, by its lower half, and by the upper half of the second.
 #[derive(Clone, Copy)]
 pub struct Rule {
     /// Whether the set has the characters that need conversion: surrogate pairs, and C0 80 in
@@ -31,13 +23,67 @@ pub struct Rule {
     pub by_next: [u8; 16],
 }
 
+// The bits of a class. `following` compares TWO_CONTS and SURROGATE with what the earlier bytes
+// require. Every other bit is an error in the second byte.
+
+/// A lead byte is not followed by a continuation byte.
+const TOO_SHORT: u8 = 0x01;
+
+/// ASCII is followed by a continuation byte.
+const TOO_LONG: u8 = 0x02;
+
+/// E0 is followed by 80 to 9F (hexadecimal).
+const OVERLONG_3: u8 = 0x04;
+
+/// C1 is followed by a continuation byte.
+const OVERLONG_C1: u8 = 0x08;
+
+/// C0 is followed by a continuation byte. `following` clears this bit for C0 80 if the set has it.
+pub const OVERLONG_C0: u8 = 0x10;
+
+/// ED is followed by the second byte of a low surrogate, or of any surrogate if the set has no
+/// pairs. A set without pairs never requires this bit.
+pub const SURROGATE: u8 = 0x20;
+
+/// F0 or more is followed by any byte.
+const TOO_LARGE: u8 = 0x40;
+
+/// A continuation byte follows another one: it is the third byte of a character.
+pub const TWO_CONTS: u8 = 0x80;
+
+// Entries by the upper half of the first byte, C or E.
+const C_HIGH: u8 = TOO_SHORT | OVERLONG_C0 | OVERLONG_C1;
+
+const E_HIGH: u8 = TOO_SHORT | OVERLONG_3 | SURROGATE;
+
 const BY_HIGH: [u8; 16] = [
-    0x02, 0x02, 0x02, 0x02, 0x02, 0x02, 0x02, 0x02, 0x80, 0x80, 0x80, 0x80, 0x19, 0x01, 0x25, 0x40,
+    TOO_LONG, TOO_LONG, TOO_LONG, TOO_LONG, TOO_LONG, TOO_LONG, TOO_LONG, TOO_LONG, TWO_CONTS,
+    TWO_CONTS, TWO_CONTS, TWO_CONTS, C_HIGH, TOO_SHORT, E_HIGH, TOO_LARGE,
 ];
 
+// Entries by the lower half of the first byte, which decides nothing for the bits of ANY_LOW.
+const ANY_LOW: u8 = TOO_SHORT | TOO_LONG | TOO_LARGE | TWO_CONTS;
+
+const LOW_0: u8 = ANY_LOW | OVERLONG_C0 | OVERLONG_3;
+
+const LOW_1: u8 = ANY_LOW | OVERLONG_C1;
+
+const LOW_D: u8 = ANY_LOW | SURROGATE;
+
 const BY_LOW: [u8; 16] = [
-    0xD7, 0xCB, 0xC3, 0xC3, 0xC3, 0xC3, 0xC3, 0xC3, 0xC3, 0xC3, 0xC3, 0xC3, 0xC3, 0xE3, 0xC3, 0xC3,
+    LOW_0, LOW_1, ANY_LOW, ANY_LOW, ANY_LOW, ANY_LOW, ANY_LOW, ANY_LOW, ANY_LOW, ANY_LOW, ANY_LOW,
+    ANY_LOW, ANY_LOW, LOW_D, ANY_LOW, ANY_LOW,
 ];
+
+// Entries by the upper half of the second byte: a continuation byte from 80, A0 or B0 on, or any
+// other byte.
+const OTHER: u8 = TOO_SHORT | TOO_LARGE;
+
+const FROM_A0: u8 = TOO_LONG | OVERLONG_C0 | OVERLONG_C1 | TOO_LARGE | TWO_CONTS;
+
+const FROM_80: u8 = FROM_A0 | OVERLONG_3;
+
+const FROM_B0: u8 = FROM_A0 | SURROGATE;
 
 /// Differs from `UNCHANGED` only in the entry for A0 to AF: after ED these begin a high surrogate.
 const ENCODED: Rule = Rule {
@@ -45,8 +91,8 @@ const ENCODED: Rule = Rule {
     by_high: BY_HIGH,
     by_low: BY_LOW,
     by_next: [
-        0x41, 0x41, 0x41, 0x41, 0x41, 0x41, 0x41, 0x41, 0xDE, 0xDE, 0xDA, 0xFA, 0x41, 0x41, 0x41,
-        0x41,
+        OTHER, OTHER, OTHER, OTHER, OTHER, OTHER, OTHER, OTHER, FROM_80, FROM_80, FROM_A0, FROM_B0,
+        OTHER, OTHER, OTHER, OTHER,
     ],
 };
 
@@ -55,8 +101,8 @@ const UNCHANGED: Rule = Rule {
     by_high: BY_HIGH,
     by_low: BY_LOW,
     by_next: [
-        0x41, 0x41, 0x41, 0x41, 0x41, 0x41, 0x41, 0x41, 0xDE, 0xDE, 0xFA, 0xFA, 0x41, 0x41, 0x41,
-        0x41,
+        OTHER, OTHER, OTHER, OTHER, OTHER, OTHER, OTHER, OTHER, FROM_80, FROM_80, FROM_B0, FROM_B0,
+        OTHER, OTHER, OTHER, OTHER,
     ],
 };
 

@@ -12,7 +12,7 @@ ghost use Rattle.std.specs.Simd.Lanes.{zip2};
 ghost use Rattle.cesu8_bytes.specs.Kernels.{mask};
 ghost use Rattle.cesu8_decode.specs.Following.{CharacterSet as AnySet, has_changed, shown, wanted, follows_at, AllFollow, IsBlockAt};
 
-use super::character_set::{Block, CharacterSet, DECIDING};
+use super::character_set::{Block, CharacterSet, DECIDING, OVERLONG_C0, SURROGATE, TWO_CONTS};
 use super::tables::{FROM_28, FROM_29, FROM_30, FROM_31, HighestBit, common_bits};
 use cesu8_bytes::BLOCK;
 use cesu8_bytes::flavor::{Flavor, nulls};
@@ -95,7 +95,7 @@ fn shown_by<F: Flavor, S: CharacterSet>(first: u8x32, second: u8x32) -> u8x32
 }
 
 /// Returns the class bits that are kept in MUTF-8, by the second byte. If the set has C0 80, a
-/// second byte 80 clears bit 10 (hexadecimal), which only a first byte C0 sets.
+/// second byte 80 clears `OVERLONG_C0`, which only a first byte C0 sets.
 #[inline(always)]
 fn kept_of_null<S: CharacterSet>(bytes: u8x32) -> u8x32
     ensures { result ≡ map (λ b. if has_changed S.set && b == 0x80 then 0xEF else 0xFF) bytes }
@@ -103,13 +103,13 @@ fn kept_of_null<S: CharacterSet>(bytes: u8x32) -> u8x32
     if S::rule().has_changed {
         return bytes
             .simd_eq(u8x32::splat(0x80))
-            .select(u8x32::splat(0xEF), u8x32::splat(0xFF));
+            .select(u8x32::splat(!OVERLONG_C0), u8x32::splat(0xFF));
     }
     u8x32::splat(0xFF)
 }
 
 /// Returns the class that each byte is required to have, by the bytes two, three and four places
-/// earlier: 80 (hexadecimal) for the third byte of a character, 20 for the second byte of a low
+/// earlier: `TWO_CONTS` for the third byte of a character, `SURROGATE` for the second byte of a low
 /// surrogate, and otherwise 0.
 #[inline(always)]
 fn wanted_by<S: CharacterSet>(four_before: u8x32, three_before: u8x32, two_before: u8x32) -> u8x32
@@ -118,11 +118,11 @@ fn wanted_by<S: CharacterSet>(four_before: u8x32, three_before: u8x32, two_befor
 {
     // The highest bit is left if the byte is E0 or more, the lead byte of a character of three
     // bytes.
-    let third = two_before.saturating_sub(u8x32::splat(0xE0 - 0x80)) & u8x32::splat(0x80);
+    let third = two_before.saturating_sub(u8x32::splat(0xE0 - 0x80)) & u8x32::splat(TWO_CONTS);
     if !S::rule().has_changed {
         return third;
     }
     let is_high = mask::<Equal<0xED>>(four_before)
         & mask::<Equal<0xA0>>(three_before & u8x32::splat(0xF0));
-    third | (is_high & u8x32::splat(0x20))
+    third | (is_high & u8x32::splat(SURROGATE))
 }

@@ -1,4 +1,5 @@
--- Ill-formed inputs and their lossy readings, computed by the definitions.
+-- Ill-formed inputs and their lossy readings, computed by the definitions. `worked` is a test of
+-- the definitions, which no other proof cites.
 use Rattle.std.proofs.Common.{◌≡◌, [], ◌∷◌, rules}
 use Rattle.cesu8_text.specs.Utf16.{units_of}
 use Rattle.cesu8_text.specs.Encoding.{Cesu8, Mutf8, form, encoding}
@@ -18,7 +19,7 @@ worked :
 unfolding units_of form encoding standing lies_within mark reading
 worked = search rules
 
--- The halves of a surrogate pair, apart and joined.
+-- The halves of a surrogate pair are ill-formed apart, and one character when joined.
 pub halves_join : HalvesJoin
 unfolding units_of form encoding standing lies_within mark reading
 halves_join f = search rules

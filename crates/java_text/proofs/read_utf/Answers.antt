@@ -1,3 +1,5 @@
+-- `split_counted` splits off the counted bytes, and `decode_counted` promises each clause for them.
+-- The counted bytes are a part of the input, so the clauses hold for the input.
 use Rattle.std.proofs.Common.{rules}
 use Rattle.java_text.proofs.Forms.{counted_behind_two, refused_as}
 use Rattle.java_text.proofs.read_utf.Goals as goal

@@ -1,3 +1,5 @@
+-- The three results: the buffer has no space for the count, the form is written, or the MUTF-8 does
+-- not fit after the count. In the last case `encode_to_slice` left the buffer unchanged.
 use Rattle.std.proofs.Common.{◌∙◌, ◌-◌, ◌≤◌, length, arith, refl}
 use Rattle.std.specs.Str.{chars}
 use Rattle.std.proofs.lemmas.Bool.{false≢true}

@@ -1,3 +1,5 @@
+-- The contract of `cesu8_stream::mutf8::encode`, with a status in place of the state. A character
+-- has at most 6 bytes in MUTF-8. `NOT_UTF8` is one of the statuses 1 to 5.
 use Rattle.std.proofs.Common.{arith}
 use Rattle.simd_cesu8.specs.Text.{utf8}
 use Rattle.simd_cesu8.specs.Encoding.{Mutf8, encoding}

@@ -1,3 +1,4 @@
+-- Whether the text is borrowed or owned, its bytes are the UTF-8 of its characters.
 use Rattle.std.proofs.Common.{◌∙◌, ap, sym, subst}
 use Rattle.std.specs.Str.{chars, IsUtf8}
 use Rattle.std.specs.String.{string_bytes}

@@ -1,3 +1,4 @@
+-- After each write, the bytes that were written and the rest are together the whole.
 use Rattle.std.proofs.Common.{◌++◌, take}
 use Rattle.std.proofs.KnownBytes.{Appends-trans}
 use Rattle.cesu8_cli.proofs.Written.{whole_after}

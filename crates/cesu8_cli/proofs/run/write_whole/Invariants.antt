@@ -1,3 +1,5 @@
+-- The bytes that were written and the rest are together the whole. The loop ends since the rest
+-- becomes shorter.
 use Rattle.std.proofs.Common.{List, ℕ, ◌≡◌, ◌++◌, length}
 use Rattle.std.specs.Io.KnownBytes.{Appends}
 use Rattle.cesu8_cli.proofs.run.write_whole.Given as goal

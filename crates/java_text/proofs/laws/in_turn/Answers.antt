@@ -1,3 +1,4 @@
+-- One lemma for each clause of the law.
 use Rattle.java_text.proofs.Lawful.{one_more_law, rest_is_read_law, none_follows_law, empty_has_none_law}
 use Rattle.java_text.proofs.laws.in_turn.Goals as goal
 

@@ -1,3 +1,4 @@
+-- The rest is UTF-8, since it is a `str`. The loop ends since the rest becomes shorter.
 use Rattle.std.proofs.Common.{length}
 use denote.Text.{Utf8}
 use denote.Shadow.{shadow}

@@ -1,3 +1,6 @@
+-- Three results: the input is borrowed because the mode keeps it, the decoded text is owned, or
+-- decoding fails. The mode's lemma `known` says what it keeps and reads. An owned text is never the
+-- UTF-8 of the input: otherwise the input would have been borrowed.
 use Rattle.std.proofs.Common.{ℕ, List, rules, ap, sym}
 use Rattle.std.specs.Str.{chars}
 use Rattle.std.specs.String.{string_bytes}

@@ -1,3 +1,6 @@
+-- Two results: the input is borrowed because the mode keeps it, or the decoded text is owned. The
+-- mode's lemma `known` says what it keeps and reads. An owned text is never the UTF-8 of the input:
+-- otherwise the input would have been borrowed.
 use Rattle.std.proofs.Common.{rules, ap, sym, subst}
 use Rattle.std.specs.Str.{chars, IsUtf8}
 use Rattle.std.specs.String.{string_bytes}

@@ -1,3 +1,5 @@
+-- The fast path borrows ASCII that is unchanged, which is its own strict reading. Otherwise the
+-- call decodes the first bytes.
 use Rattle.std.proofs.Common.{rules, ◌≡◌, ℕ, List, Result, Ok, min, length, take, ap, subst, ◌∙◌}
 use Rattle.std.proofs.lemmas.List.{take_min}
 use Rattle.std.proofs.lemmas.Str.{IsUtf8-from_ascii}

@@ -1,3 +1,4 @@
+-- The stored vector has the string in its first lanes, and the buffer's own bytes in the others.
 use Rattle.std.proofs.Common.{◌∙◌, refl, sym, ap, take, arith}
 use Rattle.std.proofs.lemmas.List.{length-take-le}
 use Rattle.std.proofs.lemmas.Str.{IsUtf8-from_ascii}

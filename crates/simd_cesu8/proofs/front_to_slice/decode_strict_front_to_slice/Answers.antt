@@ -1,3 +1,5 @@
+-- The fast path copies ASCII that is unchanged, which is its own strict reading. Otherwise the call
+-- decodes the first bytes to the buffer, which the fast path left unchanged.
 use Rattle.std.proofs.Common.{◌≡◌, ℕ, List, Result, Ok, min, length, take, ap, subst, ◌∙◌, arith}
 use Rattle.std.proofs.lemmas.List.{take_min}
 use Rattle.simd_cesu8.specs.Encoding.{Flavor}

@@ -1,3 +1,4 @@
+-- ASCII is UTF-8. Other bytes are tested.
 use Rattle.std.proofs.lemmas.Bool.{iff_false}
 use Rattle.std.proofs.lemmas.Str.{IsUtf8-from_ascii}
 use Rattle.simd_cesu8.proofs.implementation.text_of.Goals as goal

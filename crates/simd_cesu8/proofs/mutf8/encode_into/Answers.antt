@@ -1,3 +1,4 @@
+-- The encoding of the empty string is empty.
 use Rattle.std.proofs.Common.{◌∙◌}
 use Rattle.simd_cesu8.specs.Encoding.{Mutf8}
 use Rattle.cesu8_text.proofs.encoding.Encodings.{encoding_of_empty}

@@ -1,6 +1,7 @@
-use Rattle.std.proofs.Common.{◌≡◌, ◌≤◌, ◌+◌, ◌∙◌, sym, arith, length}
+use Rattle.std.proofs.Common.{◌≤◌, ◌+◌, ◌∙◌, sym, arith, length}
 use Rattle.std.specs.Int.{trailing_zeros, w64}
-use Rattle.cesu8_decode.proofs.decoder.Events.{none_read, next_low, next_begins, event_room, pair_marked, run_room, run_read, changed_read, rest_copied, bit_tested, null_set}
+use Rattle.cesu8_decode.proofs.decoder.Events.{none_read, next_low, next_begins, event_room, pair_marked, run_room, run_read, changed_read, rest_copied, bit_tested}
+use Rattle.cesu8_decode.proofs.decoder.WindowEnds.{null_set}
 use Rattle.cesu8_decode.proofs.by_offset.CharacterBoundaries.{width_bounds}
 use Rattle.cesu8_decode.proofs.pass.events.write_in_turn.Goals as goal
 use Rattle.cesu8_decode.proofs.pass.events.write_in_turn.Goals.{in-Strict, in-Lossy}
@@ -36,7 +37,7 @@ write_changed-len-requires-clause-bytes g c =
 
 pub write_changed-len-requires-clause-null : goal.write_changed-len-requires-clause-null
 write_changed-len-requires-clause-null g c =
-    λ set. (null_set g.S.Reading.which c.requires.window (omega (arith, c.requires.bytes)) _ ((bit_tested c.args.window.nulls _).0 set)).1
+    λ set. (null_set c.requires.window _ ((bit_tested c.args.window.nulls _).0 set)).1
 
 pub write_changed-len-requires-clause-pair : goal.write_changed-len-requires-clause-pair
 write_changed-len-requires-clause-pair g c =
