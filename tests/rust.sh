@@ -11,7 +11,7 @@
 # - the levels under the address sanitizer, if rustup has a nightly compiler;
 # - programs as a user writes them, from the .crate files of RELEASE, offline: the dependency in one
 #   line, [patch.crates-io], panic = "abort", fat LTO, a static relocation model;
-# - no warning of rustc, rustdoc and clippy, and rustfmt of what is written by hand;
+# - no warning of rustc, rustdoc, clippy and cargo package, and rustfmt of what is written by hand;
 # - that the v3 code of the pass puts no vector together byte by byte.
 #
 # RELEASE names the folder that dist.sh has filled; without it the crates come from rust/make.sh,
@@ -218,6 +218,12 @@ look_at_style() {
         pass
     else
         wrong 'warnings of rustdoc'
+    fi
+    if (cd "$crate" && cargo package --no-verify --allow-dirty --target-dir "$scratch/package") \
+        >"$scratch/packaged" 2>&1 && ! grep '^warning' "$scratch/packaged"; then
+        pass
+    else
+        wrong 'warnings of cargo package'
     fi
     if ! command -v cargo-clippy >/dev/null; then
         echo 'clippy is missing: skipped'

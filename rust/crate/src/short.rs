@@ -25,32 +25,32 @@ pub(crate) fn ascii<const WITHOUT_NULL: bool>(bytes: &[u8]) -> Option<&str> {
     Some(unsafe { core::str::from_utf8_unchecked(bytes) })
 }
 
-/// Returns what a lenient call does of few bytes, if the test for UTF-8 alone decides that: if a
-/// strict call would return them unchanged or reject them. It rejects F0 and above. Only ED begins
-/// what it changes, or for MUTF-8, `WITH_NULL`, also C0; at most seven bytes are searched for these,
-/// for which a level takes longer than the test for UTF-8.
-#[inline]
+/// Returns what a lenient call returns for few bytes, if they are ASCII or the test for UTF-8 alone
+/// decides that: if a strict call would return them unchanged or reject them. It rejects F0 and above.
+/// What it changes begins with ED, or for MUTF-8, `WITH_NULL`, also with C0; at most seven bytes are
+/// searched for these, for which a level takes longer than the test.
+#[cfg_attr(not(debug_assertions), inline(always))]
 pub(crate) fn lenient<const WITH_NULL: bool>(bytes: &[u8]) -> Option<Result<&str, DecodingError>> {
-    let is_ascii = if bytes.len() < 8 {
+    // SAFETY: it is called of ASCII, and of bytes that are tested.
+    let text = |bytes| Some(Ok(unsafe { core::str::from_utf8_unchecked(bytes) }));
+    if bytes.len() < 8 {
         let word = word_of_few(bytes);
         let has = |byte: u64| any_zero(word ^ (HIGH >> 7) * byte);
-        let is_ascii = word & HIGH == 0;
-        if !is_ascii && (has(0xED) || WITH_NULL && has(0xC0)) {
+        if word & HIGH == 0 {
+            return text(bytes);
+        }
+        if has(0xED) || WITH_NULL && has(0xC0) {
             return None;
         }
-        is_ascii
     } else {
-        let is_ascii = bytes.len() <= SHORT && !any_in_short::<NON_ASCII, false>(bytes);
-        if !is_ascii && (bytes.len() > SHORT || !any_in_short::<LEAD_OF_FOUR, false>(bytes)) {
+        if let Some(text) = ascii::<false>(bytes) {
+            return Some(Ok(text));
+        }
+        if bytes.len() > SHORT || !any_in_short::<LEAD_OF_FOUR, false>(bytes) {
             return None;
         }
-        is_ascii
-    };
-    if !is_ascii && !utf8::is_utf8(bytes) {
-        return Some(Err(DecodingError(())));
     }
-    // SAFETY: ASCII is UTF-8, and other bytes are tested.
-    Some(Ok(unsafe { core::str::from_utf8_unchecked(bytes) }))
+    if utf8::is_utf8(bytes) { text(bytes) } else { Some(Err(DecodingError(()))) }
 }
 
 /// Returns a word of the bytes, which are at most seven. Each is there, and some are twice.
