@@ -34,7 +34,8 @@ pub fn encode_to_slice<F: Flavor>(text: &str, buf: &mut [u8]) -> Result<usize, N
     put_in_place::<F>(text, buf)
 }
 
-/// Encodes at most a block to the stack, and copies the result.
+/// Encodes at most a block to the stack, and copies the result. It is not inlined, so that only a
+/// call clears the array.
 #[inline(never)]
 #[tactic(auto, using(cesu8_text::proofs::encoding::Lengths::length_encoding_chars))]
 fn put_on_stack<F: Flavor>(text: &str, buf: &mut [u8]) -> Result<usize, NoRoom>
@@ -46,7 +47,8 @@ fn put_on_stack<F: Flavor>(text: &str, buf: &mut [u8]) -> Result<usize, NoRoom>
     copy_to_slice(&written[..len], buf)
 }
 
-/// Counts the length of the encoding, and encodes in place.
+/// Counts the length of the encoding, and encodes in place. It is not inlined, so that a string that
+/// does not change uses no stack.
 #[inline(never)]
 #[tactic(auto, using(crate::proofs::encoder::EncodedLengths::no_shorter))]
 fn put_in_place<F: Flavor>(text: &str, buf: &mut [u8]) -> Result<usize, NoRoom>
