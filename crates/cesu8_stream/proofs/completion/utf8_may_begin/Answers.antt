@@ -1,3 +1,6 @@
+-- The call appends fixed bytes to the rest and tests whether a character begins then. Two tests are
+-- enough: a part of a character is completed by the end of U+100000 or of U+20000
+-- (`utf8_part_completes`).
 use Rattle.std.proofs.Common.{◌<◌, drop, length, refl, inl, inr, arith}
 use Rattle.std.proofs.lemmas.Bool.Decides.{nat_tests}
 use Rattle.simd_cesu8.specs.Text.{utf8}

@@ -1,3 +1,5 @@
+-- A step is a strict call, and U+FFFD for the byte at which it stopped if that is damage. Steps
+-- after one another are one step (`read_on`).
 use borrow.Rule.Slice.PartMut.{put_mid}
 use Rattle.std.proofs.Common.{subst, ◌≡◌, ◌<◌, ◌+◌, ◌-◌, ◌∷◌, ◌++◌, length, take, drop, length-drop, arith, sym, ap, ◌∙◌, refl, true}
 use Rattle.std.proofs.lemmas.List.{take_rest, take-append-drop}

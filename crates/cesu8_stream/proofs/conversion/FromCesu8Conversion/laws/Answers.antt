@@ -1,3 +1,5 @@
+-- What the engine needs to know of CESU-8 and UTF-8: a character has one to six bytes in the one
+-- and at most four in the other, and at most one character begins bytes.
 use Rattle.simd_cesu8.specs.Encoding.{Cesu8}
 use Rattle.cesu8_stream.proofs.Characters.{encoding_empty, encoding_some, encoding_few, utf8_few, one_encoded_begins}
 use Rattle.cesu8_stream.proofs.conversion.FromCesu8Conversion.laws.Goals as goal

@@ -1,3 +1,5 @@
+-- The call appends the end of U+10000 and tests whether a character begins then: each part of a
+-- character in CESU-8 is completed by it.
 use Rattle.std.proofs.Common.{◌<◌, drop, length, inl, inr, arith}
 use Rattle.std.proofs.lemmas.Bool.Decides.{nat_tests}
 use Rattle.simd_cesu8.specs.Encoding.{Cesu8, encoding}

@@ -1,3 +1,5 @@
+-- What the engine needs to know of MUTF-8 and UTF-8: a character has one to six bytes in the one
+-- and at most four in the other, and at most one character begins bytes.
 use Rattle.simd_cesu8.specs.Encoding.{Mutf8}
 use Rattle.cesu8_stream.proofs.Characters.{encoding_empty, encoding_some, encoding_few, utf8_few, one_encoded_begins}
 use Rattle.cesu8_stream.proofs.conversion.FromMutf8Conversion.laws.Goals as goal

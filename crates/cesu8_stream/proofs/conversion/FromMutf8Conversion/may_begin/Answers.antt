@@ -1,3 +1,5 @@
+-- The call appends the end of U+10000, and then of U+0000, and tests whether a character begins
+-- then: each part of a character in MUTF-8 is completed by one of them.
 use Rattle.std.proofs.Common.{◌<◌, drop, length, inl, inr, arith}
 use Rattle.std.proofs.lemmas.Bool.Decides.{nat_tests}
 use Rattle.simd_cesu8.specs.Encoding.{Mutf8, encoding}

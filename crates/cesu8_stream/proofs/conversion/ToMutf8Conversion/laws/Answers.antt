@@ -1,3 +1,5 @@
+-- What the engine needs to know of UTF-8 and MUTF-8: a character has one to four bytes in the one
+-- and at most six in the other, and at most one character begins bytes.
 use Rattle.std.proofs.Common.{arith}
 use Rattle.simd_cesu8.specs.Encoding.{Mutf8}
 use Rattle.cesu8_stream.proofs.Characters.{encoding_empty, encoding_few, utf8_some, utf8_few, one_utf8_begins}

@@ -1,3 +1,5 @@
+-- What the lossy engine needs to know of the lossy reading: that of encoded text, of a damaged
+-- byte, and of two parts that no character crosses.
 use Rattle.simd_cesu8.specs.Encoding.{Cesu8}
 use Rattle.cesu8_stream.proofs.LossyReadings.{text_read, damage_read}
 use Rattle.cesu8_stream.proofs.LossyWindows.{parts_read}
