@@ -1,14 +1,14 @@
 #!/usr/bin/env bash
-# Runs the examples of the pages and of the doc comments, and checks what the pages quote.
+# Runs the examples of the pages and of the doc comments, and tests the quotations of the pages.
 #
 # It reads README.md, docs/*.md and the doc comments of crates/*/src. A block that begins with three
-# backquotes and `rust` is an example. It runs as the body of a test with `rt`, the runtime,
-# `alloc`, its allocator, `bytes`, four letters, and the imports below; `?` takes any error. The
-# test is named after the file and the line. CALLING shows the same as the `main` below. A block that
-# begins with three backquotes, a language and the path of a file is a quotation: its lines have to be in
-# that file, one after the other. Other blocks are skipped.
+# backquotes and `rust` is an example. It runs as the body of a test with `rt`, the runtime, `alloc`, its
+# allocator, `bytes`, four letters, and the imports below; `?` accepts any error. The test is named after
+# the file and the line. CALLING quotes the `main` below. A block that begins with three backquotes, a
+# language and the path of a file is a quotation: its lines must be consecutive lines of that file. Other
+# blocks are skipped.
 #
-# The examples are built without proof, in a repository of their own beside copies of the libraries.
+# The examples are built without proof, in a separate repository with copies of the libraries.
 # It prints what is wrong, and the counts at the end. The status is 0 if nothing is wrong. It needs
 # the kit's `rt`, bash, awk, grep, sed, find and the core utilities.
 # shellcheck source=tests/lib.sh
@@ -21,8 +21,8 @@ cd "$top" || exit 2
 examples=0
 quotations=0
 
-# Writes each block of a file to a file of its own, and prints that file's name, the line before the
-# block and what stands there after the backquotes. In Rattle's files only doc comments are read.
+# Writes each block of a file to a file of its own, and prints that file's name, the number of the line
+# before the block and the words after its backquotes. In Rattle's files only doc comments are read.
 # shellcheck disable=SC2016
 blocks='
     comments { if (!sub(/^[ \t]*\/\/[\/!] ?/, "")) next }
@@ -38,13 +38,13 @@ blocks='
     END { if (inside) print "unclosed", NR, "" }
 '
 
-# The name of a test: that of the file and the line.
+# Prints the name of a test, by file and line.
 test_name() {
     local name=${1,,}
     printf '%s_line_%s' "${name//[^a-z0-9]/_}" "$2"
 }
 
-# A block as the body of a test: `example FILE LINE BLOCK`.
+# Prints a block as the body of a test: `example FILE LINE BLOCK`.
 example() {
     examples=$((examples + 1))
     printf '\n    #[test]\n    fn %s(rt: HostRuntime) -> Result<(), Fail> {\n' "$(test_name "$1" "$2")"
@@ -54,7 +54,7 @@ example() {
     printf '        Ok(())\n    }\n'
 }
 
-# Whether a block stands in a file: `quotation FILE LINE BLOCK QUOTED`.
+# Tests that a block is a part of a file: `quotation FILE LINE BLOCK QUOTED`.
 quotation() {
     local quoted=$'\n'$4 block
     quotations=$((quotations + 1))
@@ -69,7 +69,7 @@ quotation() {
     fi
 }
 
-# Each block of a file: `read_file FILE COMMENTS`, the tests to the file of tests.
+# Handles each block of a file: `read_file FILE COMMENTS`. Tests are appended to the file of tests.
 read_file() {
     local block line language path found
     found=$(find "$scratch/blocks" -type f | wc -l)

@@ -281,8 +281,8 @@ in_java_units() {
     rm -r "$scratch/jdk"
 }
 
-# Input of more than one piece, of which the end cuts a character in each way, and input that is damaged,
-# that ends within a character, and that is empty. Then what fails.
+# Input of more than one piece, with the end of a piece at each offset of a character; input that is damaged,
+# input that ends within a character, and empty input. Then reads and writes that fail.
 in_decode_pipe() {
     local program=$scratch/decode_pipe front
     compile -std=c99 -Wall -Wextra -Wconversion -pedantic -Werror -I "$unpacked/include" \
@@ -309,7 +309,7 @@ in_decode_pipe() {
     echo 'decode_pipe.c was built and run'
 }
 
-# That decode_pipe.c writes what precedes a fault, and what it says: `decodes_up_to STATUS LINE BYTES`.
+# Tests that decode_pipe.c writes the text before a fault, and reports it: `decodes_up_to STATUS LINE BYTES`.
 decodes_up_to() {
     local status=0
     { cat "$scratch/encoded" && printf '%b' "$3"; } |

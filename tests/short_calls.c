@@ -1,5 +1,5 @@
-// A read and a write that move one byte a call, for tests/cesu8conv.sh, which has a program take them in the
-// place of the C library's.
+// Replacements for the C library's read and write that move one byte a call. tests/cesu8conv.sh preloads
+// them into a program.
 #define _GNU_SOURCE
 #include <sys/syscall.h>
 #include <unistd.h>

@@ -1,8 +1,8 @@
-# For tests/dist.sh: runs what the pages and man pages show, and compares the man pages and the completion
-# with the commands and the calls. It uses what that script sets.
+# For tests/dist.sh: runs the examples of the pages and man pages, and compares the man pages and the
+# completion with the commands and the calls. It uses the variables of that script.
 # shellcheck shell=bash disable=SC2154
 
-# The lines of a shell in a page print what stands behind them: `shown_lines FILE`.
+# Tests that the shell lines of a page print what the comments after them say: `shown_lines FILE`.
 shown_lines() {
     local line count=0
     while read -r line; do
@@ -13,7 +13,7 @@ shown_lines() {
     ((count >= 3)) || wrong "${1##*/} shows $count lines of a shell"
 }
 
-# The C that the README shows, with the command under it.
+# Tests the C program that the README shows, with the command after it.
 shown_c() {
     local command
     # shellcheck disable=SC2016
@@ -27,8 +27,8 @@ shown_c() {
     fi
 }
 
-# The three blocks of C that C.md shows, each as the body of a program: one prints what it has decoded,
-# and the others make what is printed here, a name and a text of what mixes both encodings.
+# Tests the three blocks of C that C.md shows, each as the body of a program. One prints what it decoded.
+# The others make a name, and a text of bytes that mix both encodings, which are printed here.
 shown_in_page() {
     local file=$scratch/shown/page.c first
     for first in bytes text mixed; do
@@ -49,8 +49,8 @@ shown_in_page() {
         cmp - "$scratch/shown/printed" || wrong 'what C.md shows prints something else'
 }
 
-# The blocks of a shell in PROGRAM.md, as one script for the installed program: what it prints stands
-# behind the lines.
+# Tests the shell blocks of PROGRAM.md, as one script for the installed program: it must print what the
+# comments after the lines say.
 shown_in_program_page() {
     local folder=$scratch/shown/program
     mkdir "$folder" || exit 2
@@ -65,7 +65,8 @@ shown_in_program_page() {
     echo 'what PROGRAM.md shows was run'
 }
 
-# That `man` reads a page without a warning, whose text is kept in $scratch/shown_page: `reads_page PAGE`.
+# Tests that `man` reads a page without a warning, and writes its text to $scratch/shown_page:
+# `reads_page PAGE`.
 reads_page() {
     (export LC_ALL=C.UTF-8 MANROFFSEQ='' MANWIDTH=200 && cd "$unpacked/share/man" &&
         man --warnings -E UTF-8 -l "$1") >"$scratch/printed" 2>"$scratch/said" </dev/null ||
@@ -74,7 +75,8 @@ reads_page() {
     sed 's/^ *//; s/\x1b\[[0-9;]*m//g; s/.\x08//g' "$scratch/printed" >"$scratch/shown_page"
 }
 
-# The man page of the calls names each and shows its declaration, and each has a page that leads to it.
+# Tests that the man page of the calls names each call and shows its declaration, and that each call has a
+# page that includes it.
 look_at_call_pages() {
     local folder=$unpacked/share/man/man3 call
     { exports; plain_calls; } | sed 's/^/cesu8_/' | sort >"$scratch/calls"
@@ -98,7 +100,7 @@ look_at_call_pages() {
     fi
 }
 
-# The man page and the completion have the commands of the page PROGRAM.
+# Tests that the man pages and the completion have the commands of PROGRAM.md.
 look_at_words() {
     local page=$unpacked/share/man/man1/cesu8_cli.1 words
     # shellcheck disable=SC2016
@@ -136,7 +138,7 @@ look_at_words() {
     fi
 }
 
-# What bash offers for a word: `complete_words PLACE PROGRAM WORD..`.
+# Prints the completions that bash offers for the word at an index: `complete_words PLACE PROGRAM WORD..`.
 complete_words() {
     bash -c '
         source "$1" && COMP_CWORD=$2 && COMP_WORDS=("${@:3}") && "_$3" &&
@@ -144,7 +146,7 @@ complete_words() {
     ' - "$unpacked/share/bash-completion/completions/$2" "$@"
 }
 
-# The flavors that the program takes for a command.
+# Prints the flavors that the program accepts for a command.
 flavors_of() {
     local flavor found=''
     for flavor in cesu8 mutf8; do

@@ -1,19 +1,19 @@
 #!/usr/bin/env bash
-# Makes a new repository with a copy of the libraries by vendor.sh and two crates, one with a proof that
-# cites a clause and a law, and proves and runs them. It checks that the copy has what it needs and no
-# more, and of that no tests, that git takes nothing that `rt` made, and that a second copy changes
+# Makes a new repository with a copy of the libraries, made by vendor.sh, and two crates, one of them with a
+# proof that cites a clause and a law. It proves and runs them. It tests that the copy has the needed files
+# and no others, and no tests, that git ignores everything that `rt` made, and that a second copy changes
 # nothing. The status is 0 if nothing is wrong.
 #
-# It copies the proofs of the same sources from here. In a clean clone there are none, and proving
+# The script reuses what is proved here of the same sources. In a clean clone that is nothing, and proving
 # takes minutes.
 #
-# It needs the kit's `rt`, bash, grep, sed and the core utilities, and for the check of git, git.
+# It needs the kit's `rt`, bash, grep, sed and the core utilities, and git for the test of git.
 # shellcheck source=tests/lib.sh
 source "$(dirname "${BASH_SOURCE[0]}")/lib.sh" || exit 2
 # shellcheck source=tests/kit.sh
 source "$top/tests/kit.sh" || exit 2
 
-# The program that README.md shows.
+# The program that README.md quotes.
 write_program() {
     mkdir -p "$1/keys/src" || exit 2
     cat >"$1/keys/src/main.rt" <<'PROGRAM'
@@ -30,7 +30,7 @@ fn main(rt: HostRuntime) -> io::Result<()> {
 PROGRAM
 }
 
-# The library that docs/CALLING.md shows, of which the last function alone has a proof file.
+# The library that docs/CALLING.md quotes. Only its last function has a proof by hand.
 write_library() {
     mkdir -p "$1/sorted/src" "$1/sorted/proofs/there_and_back" || exit 2
     cat >"$1/sorted/src/lib.rt" <<'LIBRARY'
@@ -92,7 +92,7 @@ returns c =
 ANSWERS
 }
 
-# What a copy has to have: the files of three folders, and four more.
+# Prints the files that a copy must have: those of three folders, and four more.
 wanted_files() {
     local library
     for library in "${libraries[@]}"; do
@@ -101,13 +101,13 @@ wanted_files() {
     done | sort
 }
 
-# What it has, but for what `rt` made.
+# Prints the files that it has, except those that `rt` made.
 copied_files() {
     (cd "$new/crates" && find . -type f ! -path '*/out/*' ! -path './keys/*' ! -path './sorted/*' \
         -printf '%P\n' | sort)
 }
 
-# Copies the libraries, after which crates.txt has these lines: `copy LINES`.
+# Copies the libraries, and tests that crates.txt has these lines then: `copy LINES`.
 copy() {
     "$top/release/vendor.sh" "$new" >>"$new/crates.txt" || wrong 'vendor.sh fails'
     [[ $(<"$new/crates.txt") == "$1" ]] || wrong "crates.txt has other lines than $1"
@@ -115,7 +115,7 @@ copy() {
     compare_code
 }
 
-# The code is the same but for its tests, each of which ends its file.
+# Tests that the code is the same, except for the tests, which are at the end of a file.
 compare_code() {
     local file
     while read -r file; do
@@ -125,8 +125,8 @@ compare_code() {
     grep -r --include='*.rt' '#\[test\]' "$new/crates" && wrong 'a test is copied'
 }
 
-# Proves the crates and runs the program, over what was proved of these sources before. A copy without tests has other
-# sources than the library here, so `rt` builds it anew, over what was kept of each proof.
+# Proves the crates and runs the program, with what is already proved here. A copy without tests has other
+# sources than the library here, so `rt` builds it again, but reuses each proof that it kept.
 prove() {
     local library made
     for library in "${libraries[@]}"; do
@@ -145,7 +145,7 @@ prove() {
     fi
 }
 
-# That git takes nothing which `rt` made in the copy.
+# Tests that git ignores everything that `rt` made in the copy.
 look_at_git() {
     if ! command -v git >/dev/null; then
         echo 'git is missing: the check of what it would take skipped'
@@ -179,7 +179,7 @@ look_at_git
 echo 'old' >"$new/crates/simd_cesu8/src/old.rt"
 copy "$lines"$'\n'"$own"
 
-# That vendor.sh refuses a folder with status 2, and changes nothing in it:
+# Tests that vendor.sh rejects a folder with status 2, and changes nothing in it:
 # `refuses WHAT VENDOR FOLDER`.
 refuses() {
     local status=0
@@ -189,10 +189,10 @@ refuses() {
     diff -r "$scratch/before" "$3/." || wrong "vendor.sh writes to $1"
 }
 
-# A repository with no folder crates, and one with a library of this name that is its own.
+# A repository without a folder crates, and one with a library of its own that has one of these names.
 mkdir -p "$scratch/flat" "$scratch/other/crates/simd_cesu8/src" || exit 2
 printf 'keys: simd_cesu8' >"$scratch/flat/crates.txt"
-# It is called by a link.
+# vendor.sh is called by a symbolic link.
 ln -s "$top/release/vendor.sh" "$scratch/vendor" || exit 2
 "$scratch/vendor" "$scratch/flat" >>"$scratch/flat/crates.txt" ||
     wrong 'vendor.sh fails beside crates.txt'
@@ -201,14 +201,14 @@ ln -s "$top/release/vendor.sh" "$scratch/vendor" || exit 2
 [[ -f $scratch/flat/java_text/src/lib.rt ]] || wrong 'the copy does not stand beside crates.txt'
 refuses 'a library that it did not copy' "$top/release/vendor.sh" "$scratch/other"
 
-# A copy that is a link: what it leads to may belong to others.
+# A copy that is a symbolic link: its target may belong to something else.
 mkdir -p "$scratch/linked/crates" || exit 2
 ln -s "$scratch/flat/simd_cesu8" "$scratch/linked/crates/simd_cesu8" || exit 2
 echo 'own' >"$scratch/flat/simd_cesu8/src/own.rt"
 refuses 'a link to a copy' "$top/release/vendor.sh" "$scratch/linked"
 [[ -f $scratch/flat/simd_cesu8/src/own.rt ]] || wrong 'vendor.sh writes through a link'
 
-# Its own repository, by its name and by a link: here one whose libraries are copies themselves.
+# Its own repository, by name and by a symbolic link: here one whose libraries are copies themselves.
 mkdir -p "$scratch/own/crates" "$scratch/own/release" || exit 2
 cp "$top/release/vendor.sh" "$scratch/own/release" || exit 2
 cp "$top"/{crates.txt,VERSION,LICENSE-APACHE,LICENSE-MIT} "$scratch/own" || exit 2

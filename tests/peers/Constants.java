@@ -1,7 +1,7 @@
-// For tests/dist.sh: the strings of the JDK's own class files. To the file `strings` of the folder that it
-// runs in it writes each once, with its count of bytes in front, as the class files have it; and to
-// `units` the UTF-16 code units that `readUTF` reads of it, a line of hexadecimal numbers. It prints how
-// many there are, and how many of them have a surrogate without a partner.
+// For tests/dist.sh: the strings of the JDK's own class files. It writes each once to the file `strings` in
+// the current folder, after the count of its bytes, as the class files have it. To `units` it writes a line
+// with the UTF-16 code units that `readUTF` reads of it, in hexadecimal. It prints the number of strings, and
+// the number of those with an unpaired surrogate.
 
 import java.io.BufferedOutputStream;
 import java.io.BufferedWriter;
@@ -22,8 +22,8 @@ import java.util.stream.Collectors;
 import java.util.stream.Stream;
 
 public class Constants {
-    /** How many bytes the constant of each tag has behind it, as the Java Virtual Machine Specification
-     * has them (4.4), or -1 where there is no such tag. */
+    /** How many bytes follow the tag of a constant, for each tag of the Java Virtual Machine Specification
+     * (4.4), or -1 if there is no such tag. */
     private static final int[] LENGTHS = {-1, 0, -1, 4, 4, 8, 8, 2, 2, 4, 4, 4, 4, -1, -1, 3, 2, 4, 4, 2, 2};
 
     public static void main(String[] args) throws IOException {
@@ -44,7 +44,7 @@ public class Constants {
                 String text = new DataInputStream(new ByteArrayInputStream(bytes)).readUTF();
                 copies.write(bytes);
                 units.write(hexadecimal(text) + '\n');
-                // `codePoints` joins pairs, so that a surrogate is left only where it is alone.
+                // `codePoints` joins pairs, so a surrogate is left only if it is unpaired.
                 if (text.codePoints().anyMatch(point -> 0xD800 <= point && point <= 0xDFFF)) {
                     alone++;
                 }

@@ -1,9 +1,8 @@
-// The JDK's part of tests/peers.sh. For each file of the folder `texts`, which is UTF-8, it writes to
-// the folder `java` the text in both encodings, as NAME.mutf8 and NAME.cesu8, and with its length in
-// front, as NAME.string; and what it reads in the program's own files of these names in the folder
-// `ours`, as NAME.mutf8.utf8, NAME.cesu8.utf8 and NAME.string.utf8. To `java/constant` it copies a
-// constant out of its own class file, as `javac` wrote it. A file that can't be made is left out, and
-// standard error says why.
+// The JDK's part of tests/peers.sh. For each file of the folder `texts`, which is UTF-8, it writes to the
+// folder `java` the text in both encodings, as NAME.mutf8 and NAME.cesu8, and with the length prefix, as
+// NAME.string. It also decodes the program's files of these names in the folder `ours`, and writes the texts
+// as NAME.mutf8.utf8, NAME.cesu8.utf8 and NAME.string.utf8. To `java/constant` it copies a constant from its
+// own class file, as `javac` wrote it. A file that cannot be made is omitted, and standard error says why.
 
 import java.io.ByteArrayInputStream;
 import java.io.ByteArrayOutputStream;
@@ -79,7 +78,7 @@ public class Peer {
         return Arrays.copyOfRange(written, 2, written.length);
     }
 
-    /** What readUTF reads in these bytes, which it has to read to their end. */
+    /** The string that readUTF reads from these bytes, all of which it must read. */
     private static String readUtf(byte[] bytes) throws IOException {
         DataInputStream in = new DataInputStream(new ByteArrayInputStream(bytes));
         String text = in.readUTF();
@@ -89,7 +88,7 @@ public class Peer {
         return text;
     }
 
-    /** What readUTF reads in these bytes, after two that count them. */
+    /** The string that readUTF reads from these bytes, after two that count them. */
     private static String readCounted(byte[] bytes) throws IOException {
         if (bytes.length > 65_535) {
             throw new IOException("too long for readUTF");

@@ -1,7 +1,7 @@
-// What Java tells of all scalar values, 4,096 to a string, in files of the folder that the argument
-// names: in `strings` what writeUTF writes, in `cesu8` what the charset CESU-8 does, and in `lengths`
-// each string's length. In `order` is how each scalar value that STEP divides compares with each, by
-// compareTo, as 0, 1 or 2.
+// Writes Java's results for all scalar values, 4,096 to a string, to files in the folder that the argument
+// names: to `strings` what writeUTF writes, to `cesu8` what the charset CESU-8 writes, and to `lengths` each
+// string's length. To `order` it writes how the multiples of STEP compare with one another as
+// characters, by compareTo, as 0, 1 or 2.
 
 import java.io.BufferedOutputStream;
 import java.io.DataOutputStream;

@@ -131,7 +131,7 @@ pub record Decodes (IsReading : List ℕ → Type 0) (answer : Answer) (old new 
       → ReadsAtLength IsReading (λ len. (length old < len) × (answer.length ≡ len))
   pub statuses : IsAmong (OK ∷ INVALID ∷ TOO_SMALL ∷ []) answer.status
   pub none : answer.status ≡ INVALID → answer.length ≡ 0
-  -- Without a result the whole buffer stays.
+  -- Without a result the whole buffer is unchanged.
   pub unchanged : answer.status ≢ OK → new ≡ old
 
 -- `Decodes` for lossy readings. Every input has one, but its length may not fit `size_t`.
@@ -144,7 +144,7 @@ pub record DecodesLossily (IsReading : List ℕ → Type 0) (answer : Answer) (o
       → ReadsAtLength IsReading (λ len. (length old < len) × (answer.length ≡ len))
   pub statuses : IsAmong (OK ∷ TOO_LONG ∷ TOO_SMALL ∷ []) answer.status
   pub none : answer.status ≡ TOO_LONG → answer.length ≡ 0
-  -- Without a result the whole buffer stays.
+  -- Without a result the whole buffer is unchanged.
   pub unchanged : answer.status ≢ OK → new ≡ old
 
 -- The form of a text is written. The status is `NOT_UTF8` for input that is not UTF-8, and
