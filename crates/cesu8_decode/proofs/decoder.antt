@@ -19,5 +19,3 @@ pub mod EventsDecoded
 pub mod Events
 pub mod EventsPacked
 pub mod EventsRows
-pub mod ChangedLanes
-pub mod ChangedWindows

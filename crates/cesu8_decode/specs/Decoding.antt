@@ -50,6 +50,12 @@ pub record WritesReading {E : Type 0} (f : Flavor) (which : Strictness) (bytes :
   pub none : OnErr result ((which ≡ Strict) × HasNoStrictReading f bytes)
   pub len : length new ≡ length old
 
+-- The text of the bytes is written at the start of a slice, up to `end`.
+pub record WritesText (f : Flavor) (which : Strictness) (bytes : List ℕ) (end : ℕ) (old new : List ℕ) : Type 0 where
+  pub text : IsReadSoFar f which bytes [] [] (take end new)
+  pub fits : end ≤ most_written which (length bytes)
+  pub len : length new ≡ length old
+
 -- The text of the bytes is appended to a vector, or strict decoding rejects a byte.
 pub record AppendsReading {Z E : Type 0} (f : Flavor) (which : Strictness) (bytes : List ℕ) (before : Vec ℕ Z) (result : Result (Vec ℕ Z) E) : Type 0 where
   pub text : IfOk result (λ text. IsReadSoFar f which bytes [] before.items text.items)

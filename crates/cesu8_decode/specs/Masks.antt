@@ -1,6 +1,6 @@
 -- Masks of 64 bits: which characters begin at the offsets of a window, and which bytes are
 -- ill-formed.
-use Rattle.std.specs.Prelude.{◌≡◌, ℕ, ◌+◌, ◌*◌, ◌^◌, ◌%◌, ◌<◌, ◌≤◌, ◌&&◌, ◌==◌, nat_le, nat_lt, if◌then◌else◌, not, Bool, true, false, List, [], map, slice_index, slice_index_or}
+use Rattle.std.specs.Prelude.{◌≡◌, ℕ, ◌+◌, ◌*◌, ◌^◌, ◌%◌, ◌<◌, ◌≤◌, ◌&&◌, ◌==◌, nat_le, if◌then◌else◌, not, Bool, true, false, List, [], map, slice_index, slice_index_or}
 use Rattle.std.specs.Int.{bit_at}
 use Rattle.std.specs.List.{range_with_len}
 use Rattle.std.specs.Simd.Lanes.{mask_l}
@@ -9,7 +9,7 @@ use Rattle.cesu8_bytes.specs.Packing.{kept_of, shuffle_keeping}
 use Rattle.cesu8_bytes.specs.Pairs.{null_at}
 use Rattle.cesu8_decode.specs.declared.lanes.masks.Masks.{Masks}
 use Rattle.cesu8_decode.specs.declared.lanes.windows.Window.{Window}
-use Rattle.cesu8_decode.specs.DecodedOffsets.{one_at, two_at, three_at, width_at, window_of, is_ill_formed_at, is_boundary_at, continues, pair_at, byte_by}
+use Rattle.cesu8_decode.specs.DecodedOffsets.{one_at, two_at, three_at, width_at, window_of, is_ill_formed_at, is_boundary_at, continues, pair_at}
 
 -- Bit i of the mask is set exactly if i passes the test.
 pub record HasBits (mask : ℕ) (test : ℕ → Bool) : Type 0 where
@@ -82,15 +82,3 @@ pub record IsWindow (f : Flavor) (bytes : List ℕ) (at : ℕ) (window : Window)
 -- bytes whose bit is set.
 abbrev pub AreShufflesOfReplaced : List (List ℕ) → Type 0
 AreShufflesOfReplaced rows = (ill_formed : ℕ) → ill_formed < 0x10 → slice_index_or rows ill_formed [] ≡ shuffle_keeping (kept_of 0 ill_formed 0 4)
-
--- The two bytes begin a high surrogate.
-abbrev pub is_high_surrogate : ℕ → ℕ → Bool
-is_high_surrogate a b = a == 0xED && (nat_le 0xA0 b && nat_lt b 0xB0)
-
--- The byte that is written for byte i + 4, from the four bytes before it. It is used if no byte is
--- ill-formed: then every high surrogate begins a pair, and every C0 begins C0 80.
-abbrev pub changed_byte : (ℕ → ℕ) → ℕ → ℕ
-changed_byte byte i =
-    byte_by (if byte (i + 3) == 0xC0 then 2 else 0) (if is_high_surrogate (byte (i + 2)) (byte (i + 3)) then 6 else 0)
-    (if is_high_surrogate (byte (i + 1)) (byte (i + 2)) then 6 else 0) (if is_high_surrogate (byte i) (byte (i + 1)) then 6 else 0)
-    (byte (i + 2)) (byte (i + 3)) (byte (i + 4))

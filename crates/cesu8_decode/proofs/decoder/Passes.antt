@@ -1,23 +1,26 @@
 -- The pass from window to window.
-use Rattle.std.proofs.Common.{◌≡◌, ℕ, ◌+◌, ◌≤◌, Bool, true, false, true≢false, List, [], ◌++◌, refl, sym, ap, ◌∙◌, subst, arith, length, take, drop, append-nil, append_assoc, length-append, length-drop, take-append-drop, Result, Ok, Err, OkIff}
+use Rattle.std.proofs.Common.{◌≡◌, ℕ, ◌+◌, ◌≤◌, Bool, true, false, true≢false, List, [], ◌++◌, refl, sym, ap, ◌∙◌, subst, arith, get_or, length, take, drop, append-nil, append_assoc, length-append, length-drop, take-append-drop, Result, Ok, Err, OkIff}
 use Rattle.std.proofs.lemmas.List.{length-take-le}
 use Rattle.cesu8_text.specs.Encoding.{Flavor, encoding}
 use Rattle.cesu8_text.specs.Text.{IsText}
 use Rattle.cesu8_bytes.specs.Pairs.{IsUtf8OfDigits, second_third_fifth_sixth, HasPair}
-use Rattle.cesu8_bytes.specs.Puts.{PutsAt}
+use Rattle.cesu8_bytes.specs.Puts.{PutsAt, WritesAt}
 use Rattle.cesu8_bytes.specs.declared.strictness.Strictness.{Strictness}
 use Rattle.cesu8_bytes.specs.declared.strictness.Strictness.TheVariants.{Strict, Lossy}
-use Rattle.cesu8_decode.specs.Decoding.{IsDecoded, WritesDecoded, WritesReading, IsPass, GoesOn, most_written}
+use Rattle.cesu8_decode.specs.Decoding.{IsDecoded, WritesDecoded, WritesReading, WritesText, IsPass, GoesOn, most_written}
 use Rattle.cesu8_decode.specs.DecodedOffsets.{window_of, decoded, is_boundary_at}
 use Rattle.cesu8_decode.specs.Following.{Unchanged}
 use Rattle.cesu8_decode.specs.Front.{IsFront}
+use Rattle.cesu8_decode.specs.Masks.{IsWindow}
+use Rattle.cesu8_decode.specs.declared.lanes.windows.Window.{Window}
 use Rattle.cesu8_decode.specs.declared.pass.windows.Pass.{Pass}
 use Rattle.cesu8_decode.proofs.by_offset.WindowOffsets.{Agree}
 use Rattle.cesu8_decode.proofs.by_offset.CharacterBoundaries.{boundary_of_zeros}
 use Rattle.cesu8_decode.proofs.chunks.DecodedUnchanged.{text_fine, boundary_after_text, text_decoded}
 use Rattle.cesu8_decode.proofs.chunks.UnchangedFronts.{in_utf8}
 use Rattle.cesu8_decode.proofs.chunks.DecodedPairs.{pair_fine, boundary_after_pair, pair_at_boundary}
-use Rattle.cesu8_decode.proofs.decoder.BlocksInPlace.{more_decoded, decoded_in, most_of_more, all_decoded, refused_decoded}
+use Rattle.cesu8_decode.proofs.decoder.BlocksInPlace.{more_decoded, decoded_in, most_of_more, all_decoded, refused_decoded, windows_alike, writes_decoded}
+use Rattle.cesu8_decode.proofs.decoder.WindowEnds.{none_in_window}
 
 -- The state of a pass that has read some bytes and was not stopped.
 abbrev pub pass_at : (read end : ℕ) → Pass
@@ -105,6 +108,12 @@ module _ (f : Flavor) (which : Strictness) (bytes : List ℕ) where
       subst (IsDecoded f which (window_of bytes) 0 after.read start (text ++ take after.end new)) refused
       (more.text start text (subst (λ bs. IsDecoded f which (window_of bytes) 0 before.read start bs false) none so_far))
 
+-- A text that is written is the result of decoding that does not fail.
+pub reads_text : {E : Type 0} (f : Flavor) (which : Strictness) (bytes old new : List ℕ) (end : ℕ) → WritesText f which bytes end old new →
+    (result : Result ℕ E) → OkIff result (which ≡ Strict → false ≡ false) end → WritesReading f which bytes result old new
+reads_text f which bytes old new end writes (Ok len) ok = rw ok.1 (record { text = writes.text; end = writes.fits; none = tt; len = writes.len })
+reads_text f which bytes old new end writes (Err refusal) refused = absurd (refused (λ _. refl))
+
 -- The text of all bytes is written, or strict decoding rejects one of them.
 pub writes_reading : {E : Type 0} (f : Flavor) (which : Strictness) (bytes old new : List ℕ) (n end : ℕ) (is_refused : Bool) →
     IsDecoded f which (window_of bytes) 0 n [] (take end new) is_refused → n ≤ length bytes → (is_refused ≡ false → n ≡ length bytes) →
@@ -114,9 +123,24 @@ writes_reading f which bytes old new n end true is inside all fits long (Ok len)
     absurd (true≢false (ok.0 (refused_decoded f which bytes [] _ n is inside).0))
 writes_reading f which bytes old new n end true is inside all fits long (Err refusal) refused =
     record { text = tt; end = tt; none = refused_decoded f which bytes [] _ n is inside; len = long }
-writes_reading f which bytes old new n end false is inside all fits long (Ok len) ok =
-    rw ok.1 (record { text = all_decoded f which bytes [] _ n is (all refl); end = omega (arith, fits, ap (most_written which) (all refl)); none = tt; len = long })
-writes_reading f which bytes old new n end false is inside all fits long (Err refusal) refused = absurd (refused (λ _. refl))
+writes_reading f which bytes old new n end false is inside all fits long result ok =
+    reads_text f which bytes old new end
+    (record { text = all_decoded f which bytes [] _ n is (all refl); fits = omega (arith, fits, ap (most_written which) (all refl)); len = long }) result ok
+
+-- What is written for the window of a source is the decoded text of all bytes that agree with it.
+pub text_of_window : (f : Flavor) (which : Strictness) (bytes source : List ℕ) (window : Window) (end : ℕ) (old new : List ℕ) →
+    ((k : ℕ) → get_or source k 0 ≡ get_or bytes k 0) → IsWindow f source 0 window → window.len ≡ length bytes → (which ≡ Strict → window.ill_formed ≡ 0) →
+    WritesAt (decoded f (window_of source) 0 window.len) 0 old new end → WritesText f which bytes end old new
+text_of_window f which bytes source window end old new alike is len whole written =
+    let writes : WritesDecoded f which (window_of source) 0 window.len 0 old new end false =
+    writes_decoded f which (window_of source) _ old new 0 window.len 0 end false refl
+    (λ strict i from to. none_in_window f source 0 window is (whole strict) i from to) refl written in
+    record {
+      text = all_decoded f which bytes [] _ window.len
+          (decoded_in f which (window_of source) (window_of bytes) [] _ 0 0 window.len false (λ k small. windows_alike source bytes alike (0 + k)) writes.text) len;
+      fits = omega (arith, writes.end, ap (most_written which) len);
+      len = writes.len;
+    }
 
 -- ---- pairs
 

@@ -57,7 +57,7 @@ pub fn common_bits(
 
 /// Returns the entry of a table for the lower half of each lane.
 #[inline(always)]
-pub fn look_up(table: [u8; 16], lanes: u8x32) -> u8x32
+fn look_up(table: [u8; 16], lanes: u8x32) -> u8x32
     ensures { result ≡ map (λ lane. slice_index table (lane % 16)) lanes }
 {
     // Each half of the lanes is looked up in its own sixteen lanes, so the vector holds the table

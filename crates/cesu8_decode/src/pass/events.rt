@@ -13,7 +13,6 @@ ghost use Rattle.cesu8_decode.specs.Decoding.{most_written};
 ghost use Rattle.cesu8_decode.specs.Masks.{IsWindow, is_null_at, is_pair_at};
 
 mod dense_nulls;
-mod dense_pairs;
 mod replaced;
 
 use crate::lanes::windows::Window;
@@ -23,7 +22,6 @@ use cesu8_bytes::pairs::{PAIR, PAIR_READ, PAIR_UTF8, utf8_of_pair};
 use cesu8_bytes::strictness::{LossyReading, Reading, StrictReading, Strictness};
 use cesu8_bytes::writing::offsets::{put, put_lanes};
 use dense_nulls::write_nulls;
-use dense_pairs::put_changed;
 use replaced::{REPLACEMENT, write_replaced};
 use std::simd::prelude::*;
 
@@ -41,10 +39,6 @@ const REPLACEMENTS: [u8; 32] = [
 
 /// If a window has at least this many C0 80, and no other event, shuffles pack it.
 const MANY_NULLS: u32 = 4;
-
-/// If a window has at least this many surrogate pairs and C0 80, and no ill-formed byte, all its
-/// bytes are converted at once. Fewer are faster one after another.
-const MANY_CHANGED: u32 = 4;
 
 /// If a window has at least this many runs of ill-formed bytes, and no other event, shuffles pack
 /// it. Fewer runs are faster by stores of the replacement character.
@@ -72,9 +66,6 @@ pub fn write_events<F: Flavor, S: Reading>(
     if window.ill_formed == 0 {
         if window.pairs == 0 && window.nulls.count_ones() >= MANY_NULLS {
             return write_nulls::<F>(bytes, at, window, out, end);
-        }
-        if changed.count_ones() >= MANY_CHANGED {
-            return put_changed::<F>(bytes, at, window, out, end);
         }
         return write_in_turn::<F, StrictReading>(bytes, at, window, out, end);
     }

@@ -5,7 +5,9 @@
 //! lossy decoding computes the window again.
 
 ghost use Rattle.std.specs.Prelude.{◌≡◌, ℕ, ◌≤◌, length, slice_index, take};
-ghost use Rattle.cesu8_decode.specs.Decoding.{WritesReading, room_for_few};
+ghost use Rattle.cesu8_bytes.specs.declared.strictness.Strictness.{Strictness as AnyStrictness};
+ghost use Rattle.cesu8_bytes.specs.declared.strictness.Strictness.TheVariants.{Lossy};
+ghost use Rattle.cesu8_decode.specs.Decoding.{WritesReading, WritesText, room_for_few};
 ghost use Rattle.cesu8_decode.specs.Front.{AreChanges, IsPartialFront};
 ghost use Rattle.cesu8_decode.specs.Masks.{IsWindow};
 
@@ -41,19 +43,45 @@ pub fn write_few<F: Flavor, S: Reading>(
     requires room { room_for_few S.which ≤ length out.old }
     ensures { WritesReading F.flavor S.which bytes.now result out.old out.new }
 {
-    let mut source = [0; SOURCE];
-    load(bytes, &mut source);
     if front.changed != 0 {
-        let window = changed_window::<F>(&source, front.changed, bytes.len());
-        let end = write_events::<F, StrictReading>(&source, 0, window, out, 0);
+        let end = write_well_formed::<F>(bytes, front.changed, out);
         return S::unless_refused(false, end);
     }
-    if let Strictness::Strict = S::strictness() {
-        return S::unless_refused(true, 0);
+    match S::strictness() {
+        Strictness::Strict => S::unless_refused(true, 0),
+        Strictness::Lossy => S::unless_refused(false, write_lossily::<F>(bytes, out)),
     }
+}
+
+/// Writes the text of at most 64 bytes, none of which is ill-formed, and returns its length.
+/// `changed` is the mask of the characters that need conversion. It is not inlined, since it has
+/// many callers.
+#[inline(never)]
+fn write_well_formed<F: Flavor>(bytes: &[u8], changed: u64, out: &mut [u8]) -> usize
+    requires few { length bytes.now ≤ FEW_BYTES }
+    requires changed { AreChanges F.flavor bytes.now changed }
+    requires room { FEW_STRICT ≤ length out.old }
+    ensures { (which : AnyStrictness)
+        → WritesText F.flavor which bytes.now result out.old out.new }
+{
+    let mut source = [0; SOURCE];
+    load(bytes, &mut source);
+    let window = changed_window::<F>(&source, changed, bytes.len());
+    write_events::<F, StrictReading>(&source, 0, window, out, 0)
+}
+
+/// Writes the lossily decoded text of at most 64 bytes, of which any may be ill-formed, and returns
+/// its length. It is not inlined, since it has several callers.
+#[inline(never)]
+fn write_lossily<F: Flavor>(bytes: &[u8], out: &mut [u8]) -> usize
+    requires few { length bytes.now ≤ FEW_BYTES }
+    requires room { FEW_LOSSY ≤ length out.old }
+    ensures { WritesText F.flavor Lossy bytes.now result out.old out.new }
+{
+    let mut source = [0; SOURCE];
+    load(bytes, &mut source);
     let window = window_of_few::<F>(bytes);
-    let end = write_events::<F, LossyReading>(&source, 0, window, out, 0);
-    S::unless_refused(false, end)
+    write_events::<F, LossyReading>(&source, 0, window, out, 0)
 }
 
 /// Returns the window of the first `len` bytes of the source, none of which is ill-formed, from the

@@ -1,0 +1,24 @@
+use Rattle.std.proofs.Common.{sym}
+use Rattle.cesu8_bytes.specs.declared.strictness.Strictness.TheVariants.{Lossy}
+use Rattle.cesu8_decode.proofs.by_offset.CharacterBoundaries.{boundary_of_zeros}
+use Rattle.cesu8_decode.proofs.decoder.FewWindows.{alike_with_zeros, window_of_alike}
+use Rattle.cesu8_decode.proofs.decoder.Passes.{text_of_window}
+use Rattle.cesu8_decode.proofs.pass.few.write_lossily.Goals as goal
+
+pub write_events-requires-clause-window : goal.write_events-requires-clause-window
+write_events-requires-clause-window g c =
+    let bytes = c.args.bytes.now in
+    let source = c.load.new.source in
+    window_of_alike g.F.Flavor.flavor bytes source 0 _ (λ k. sym (alike_with_zeros bytes source _ c.load.ensures k)) c.window_of_few-window.ensures.window.0
+
+pub write_events-requires-clause-boundary : goal.write_events-requires-clause-boundary
+write_events-requires-clause-boundary g c = boundary_of_zeros g.F.Flavor.flavor c.load.new.source
+
+pub returns : goal.returns
+returns g c =
+    let bytes = c.args.bytes.now in
+    let source = c.load.new.source in
+    let made = c.window_of_few-window.ensures in
+    let alike = alike_with_zeros bytes source _ c.load.ensures in
+    text_of_window g.F.Flavor.flavor Lossy bytes source _ c.write_events.result _ _ alike
+    (window_of_alike g.F.Flavor.flavor bytes source 0 _ (λ k. sym (alike k)) made.window.0) made.len (λ s. absurd (let e = s in cc)) c.write_events.ensures
