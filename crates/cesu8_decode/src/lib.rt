@@ -55,7 +55,7 @@ use std::alloc::{AllocError, Global};
 
 /// Returns the strictly decoded text, or an error if a byte is ill-formed or the allocation fails.
 /// Allocates once, as many bytes as the input has. `front` is the unchanged prefix, which is not
-/// the whole input.
+/// the whole input. It is not inlined, so that a call that borrows saves no register for it.
 #[inline(never)]
 pub fn decode_strict<F: Flavor>(
     alloc: Global,
@@ -78,7 +78,7 @@ pub fn decode_strict<F: Flavor>(
 /// Returns the lossily decoded text. Allocates once, exactly its length; a length over `usize` is
 /// reported as a failed allocation. `front` is the unchanged prefix, which is not the whole input.
 /// At most the first 4,096 bytes (`LARGEST_ARRAY`) are decoded to the stack before the allocation,
-/// so that they need no separate pass for their length.
+/// so that they need no separate pass for their length. It is not inlined, as `decode_strict`.
 #[inline(never)]
 pub fn decode_lossy<F: Flavor>(
     alloc: Global,

@@ -78,7 +78,8 @@ fn put_changed<F: Flavor>(bytes: &[u8], front: usize, buf: &mut [u8]) -> Result<
 }
 
 /// Writes the lossily decoded text to a caller's slice and returns its length. Returns an error if
-/// the slice is too short.
+/// the slice is too short. It is not inlined, so that a call that copies its input saves no register
+/// for it.
 #[inline(never)]
 pub fn put_lossily<F: Flavor>(
     bytes: &[u8],
@@ -164,7 +165,8 @@ fn put_by_array<F: Flavor, S: Reading, const WRITTEN: usize>(
 
 /// Writes the decoded text of more bytes by `put_chunks`. In strict decoding it first validates the
 /// bytes: if none is ill-formed, the lossily decoded text is the strictly decoded text. It then
-/// counts the length, unless the bytes are valid and the slice is at least as long as the input.
+/// counts the length, unless the bytes are valid and the slice is at least as long as the input. It
+/// is not inlined, so that shorter input has few registers to save.
 #[inline(never)]
 fn put_many<F: Flavor, S: Reading>(bytes: &[u8], buf: &mut [u8]) -> Result<usize, Unwritten>
     ensures { PutsReading F.flavor S.which bytes.now result buf.old buf.new }
