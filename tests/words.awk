@@ -2,10 +2,13 @@
 #   awk -f words.awk tests/clauses.txt docs/PROVED.md
 # A row's text is the signatures and clauses that its last cell names, with all definitions that
 # these cite. It prints a line if
-# - the words have a name in code or a hexadecimal number that is not in the row's text;
+# - the words have a name in code that is not in the row's text, or a hexadecimal number that is not
+#   in its clauses or in the definitions near them;
 # - a clause names an error, or `None`, that the words do not name;
 # - the words say that a case is returned "exactly when" something holds, and no clause says both
-#   directions.
+#   directions;
+# - the words name some of several statuses or cases, and not all that the clauses list;
+# - the words say that an error becomes a case, and no clause gives that case.
 # Nothing else of the words is compared.
 
 # The lines of clauses.txt: of a public item by its crate and name, of a definition by its name.
@@ -76,25 +79,27 @@ function define(words, i) {
 }
 
 # Adds a piece to the row's text, with the definitions that it cites. A definition of the crate
-# itself comes first.
-function add(piece, crate, words, count, i, at) {
+# itself comes first. `near_text` gets the clauses, the definitions that these cite, and those that
+# these cite in turn: the definition of an encoding, which nearly all rows cite, has many numbers.
+function add(piece, crate, depth, words, count, i, at) {
     row_text = row_text "\n" piece
+    if (depth < 3) near_text = near_text "\n" piece
     gsub(/[^A-Za-z0-9_]+/, " ", piece)
     count = split(piece, words, " ")
     for (i = 1; i <= count; i++) {
         if (!(words[i] in crates_of)) continue
         at = crate
         if (!((at, words[i]) in body_of)) at = word(crates_of[words[i]], 1)
-        if ((at, words[i]) in is_cited) continue
-        is_cited[at, words[i]]
-        add(body_of[at, words[i]], at)
+        if ((at, words[i]) in is_cited && is_cited[at, words[i]] <= depth) continue
+        is_cited[at, words[i]] = depth
+        add(body_of[at, words[i]], at, depth + 1)
     }
 }
 
 # Compares a row.
 function row(cells, cell, place) {
     cells = split($0, cell, "|")
-    row_text = named = cases = ""
+    row_text = near_text = named = cases = ""
     split("", is_cited)
     read_names(cell[cells - 1])
     words = cell[2]
@@ -103,6 +108,9 @@ function row(cells, cell, place) {
     compare_numbers(place)
     compare_cases(place)
     compare_both_ways(place)
+    compare_statuses(place)
+    compare_listed(place)
+    compare_becomes(place)
 }
 
 # Reads a row's last cell. `named` gets the clauses, `row_text` all that the cell names, and `cases`
@@ -180,7 +188,7 @@ function compare_numbers(place, rest, number) {
         rest = substr(rest, RSTART + RLENGTH)
         if (!sub(/^U\+/, "", number) && rest !~ /^ \(hexadecimal\)/ && number != "00" &&
             number !~ /[0-9][A-F]|[A-F][0-9]/) continue
-        if (number ~ /^0+$/ ? has("0") : has("0x" number)) continue
+        if (near_text ~ ("[^A-Za-z0-9_]" (number ~ /^0+$/ ? "0" : "0x" number) "[^A-Za-z0-9_]")) continue
         print place "no clause has " number
     }
 }
@@ -212,4 +220,62 @@ function compare_both_ways(place, rest, name) {
         if (named ~ /IsOkUnless/) continue
         print place "no clause says both ways where `" name "` comes"
     }
+}
+
+# Checks the statuses of the exports for C. If the words name several, they name each that the row's
+# text says both ways. A status may have a row of its own instead.
+function compare_statuses(place, rest, name, count) {
+    rest = words
+    while (match(rest, /`[A-Z][A-Z_0-9]+`/)) {
+        name = substr(rest, RSTART + 1, RLENGTH - 2)
+        rest = substr(rest, RSTART + RLENGTH)
+        if (name != "SIZE_MAX") count++
+    }
+    if (count == 1) has_row[crate, name]
+    rest = row_text
+    while (count > 1 && match(rest, /status ≡ [A-Z][A-Z_0-9]+ ↔/)) {
+        name = substr(rest, RSTART, RLENGTH)
+        rest = substr(rest, RSTART + RLENGTH)
+        gsub(/status ≡ | ↔/, "", name)
+        if (!index(words, "`" name "`")) unnamed[crate, name] = place "the words do not name " name
+    }
+}
+
+# Checks a list of cases. If a clause cites a definition that holds for all cases of a type except
+# some, and the words name one of these cases, they name all.
+function compare_listed(place, rest, name, head, type, body, list, count, i, is_listed, lacks, is_seen) {
+    rest = named
+    while (match(rest, /[A-Z][A-Za-z]+/)) {
+        name = substr(rest, RSTART, RLENGTH)
+        rest = substr(rest, RSTART + RLENGTH)
+        body = body_of[crate, name]
+        if (name in is_seen || body !~ (name " other = ⊤")) continue
+        is_seen[name]
+        type = body
+        sub(/[^:]*: /, "", type)
+        sub(/ .*/, "", type)
+        count = split(cases_in[type], list, " ")
+        is_listed = 0
+        lacks = ""
+        for (i = 1; i <= count; i++) {
+            if (body ~ (name " " list[i] " = ⊥")) continue
+            if (index(words, "`" list[i] "`")) is_listed = 1
+            else lacks = lacks " " list[i]
+        }
+        if (is_listed && lacks != "") print place "the words do not name" lacks
+    }
+}
+
+# Checks what an error becomes by `from`.
+function compare_becomes(place, rest, name) {
+    rest = words
+    while (match(rest, /becomes `[A-Za-z]+`/)) {
+        name = substr(rest, RSTART + 9, RLENGTH - 10)
+        rest = substr(rest, RSTART + RLENGTH)
+        if (named !~ ("≡ ([a-z_]+\\.)?" name "[^A-Za-z]")) print place "no clause gives `" name "`"
+    }
+}
+
+END {
+    for (name in unnamed) if (!(name in has_row)) print unnamed[name]
 }

@@ -1,4 +1,5 @@
--- What kernels find, for any class of bytes: a test of words, or of the lanes of a vector.
+-- A kernel finds whether some byte of a slice is in a class. It is built from tests of words or of
+-- slices of certain lengths. These definitions say what such a test promises.
 use Rattle.std.specs.Prelude.{ℕ, Bool, if◌then◌else◌, ◌<◌, List, length, ℤ, pos, negsuc, IsTrue, ◌^◌, ◌↔◌, Any}
 use Rattle.std.specs.Int.{to_le_bytes, w64}
 use Rattle.std.specs.Borrow.{Bor}

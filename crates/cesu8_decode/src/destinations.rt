@@ -2,8 +2,8 @@
 //! the other two:
 //!
 //! - `chunks`: many bytes, chunk by chunk, to a `Vec` or a slice
-//! - `strict_append`: strict decoding to a `Vec`, of at most 64 bytes, or from one converted character to
-//!   the next
+//! - `strict_append`: strict decoding to a `Vec`, if the input has at most 64 bytes, or if the
+//!   characters that need conversion are far apart, so that the runs between them are copied
 //! - `strings`: to a `Vec`, which becomes a `String`
 //! - `slices`: to a caller's slice
 

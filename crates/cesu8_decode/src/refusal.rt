@@ -19,6 +19,6 @@ pub enum Unwritten {
     NoText,
     /// In lossy decoding, the length of the text does not fit `usize`.
     TooLong,
-    /// The slice is shorter than the text.
+    /// The slice is shorter than the text, whose length `NoRoom` holds.
     NoRoom(NoRoom),
 }

@@ -1,4 +1,5 @@
--- What the tests for UTF-8 say of text.
+-- std's tests for UTF-8, in the terms of streams: which text the bytes are, and that no character
+-- begins after the longest valid prefix.
 use Rattle.std.proofs.Common.{◌≡◌, ℕ, ◌+◌, List, [], ◌∷◌, ◌++◌, sym, ap, ◌∙◌, arith, length, take, drop}
 use Rattle.std.proofs.lemmas.Grind.{flat_map-append}
 use Rattle.std.specs.Str.{chars, IsValidUpTo}
@@ -9,11 +10,11 @@ use Rattle.cesu8_stream.proofs.Joined.{Appends, joined_written}
 use Rattle.cesu8_stream.proofs.First.{first_bytes}
 use Rattle.cesu8_stream.proofs.Characters.{utf8_some}
 
--- The UTF-8 of a concatenation is the concatenation.
+-- The UTF-8 of a concatenation is the concatenation of the UTF-8.
 pub utf8_appends : Appends utf8
 utf8_appends s t = flat_map-append utf8_of s t
 
--- After the longest text at the front, no character begins.
+-- After the longest prefix that is UTF-8, no character begins.
 pub utf8_stops : (bytes : List ℕ) (n : ℕ) → IsValidUpTo bytes n → BeginsNone utf8 (drop n bytes)
 utf8_stops bytes n valid c b =
     let len = length (utf8 (c ∷ [])) in

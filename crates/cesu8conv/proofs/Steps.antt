@@ -1,4 +1,6 @@
--- What one step makes of the bytes at the start.
+-- Each kind of step keeps the promise `IsStep`: a call of `cesu8_stream`, UTF-8 that is passed
+-- through, a step that reads nothing, and one that replaces a byte. "Mixed" text has each character
+-- in the encoding or in UTF-8 (`IsMixed`).
 use Rattle.std.proofs.Common.{◌≡◌, ◌≢◌, ℕ, ◌+◌, ◌<◌, ◌≤◌, Bool, true, false, List, [], ◌∷◌, ◌++◌, length, take, drop, refl, sym, ap, ◌∙◌, inl, inr, arith, length-take, length-append}
 use Rattle.std.proofs.lemmas.List.{append-nil, take-append-drop, take-take, drop-take, drop_all, take_at}
 use Rattle.std.specs.Str.{chars, IsUtf8}
@@ -39,7 +41,7 @@ reading-of-encoded around f bytes text rest h =
     ap (λ x. reading f (x ++ rest)) (sym h.1) ∙ ap (λ x. reading f x) (sym (append-nil (encoding f text ++ rest)))
     ∙ around f text rest [] h.0 tt ∙ append-nil (text ++ reading f rest)
 
--- What is decoded strictly is decoded lossily.
+-- A strict conversion is also a lossy one.
 pub lossy-of-decoded : Around → (w : FlavorWord) (is_last : Bool) (a ahead x : List ℕ) → Converts (Decode w) is_last a ahead x →
     Converts (Lossy w) is_last a ahead x
 lossy-of-decoded around w is_last a ahead x h = record {
@@ -48,7 +50,7 @@ lossy-of-decoded around w is_last a ahead x h = record {
   written_is = h.written_is;
 }
 
--- An encoded text is mixed.
+-- An encoded text is mixed text with one part.
 pub encoded-is-mixed : (replaces : Bool) (f : Flavor) (bytes text : List ℕ) → IsStrictReading f bytes text →
     IsMixed replaces f bytes text
 encoded-is-mixed replaces f bytes text h = record {
@@ -58,7 +60,7 @@ encoded-is-mixed replaces f bytes text h = record {
   text_is = append-nil text;
 }
 
--- UTF-8 is mixed.
+-- UTF-8 is mixed text with one part.
 pub utf8-is-mixed : (replaces : Bool) (f : Flavor) (bytes : List ℕ) → IsUtf8 bytes → IsMixed replaces f bytes (chars bytes)
 utf8-is-mixed replaces f bytes h =
     let of = IsUtf8Of_chars bytes h in
@@ -69,7 +71,7 @@ utf8-is-mixed replaces f bytes h =
       text_is = append-nil (chars bytes);
     }
 
--- A replaced byte is mixed.
+-- A replaced byte is mixed text with one part.
 pub replaced-is-mixed : (f : Flavor) (byte : ℕ) → IsMixed true f (byte ∷ []) (0xFFFD ∷ [])
 replaced-is-mixed f byte = record {
   parts = Replaced byte ∷ [];
@@ -78,7 +80,7 @@ replaced-is-mixed f byte = record {
   text_is = refl;
 }
 
--- A part is also one of bytes that may be replaced.
+-- The strict conditions of a part imply those of mixed text in which bytes may be replaced.
 pub part-may-be-replaced : (part : Part) → IsPart false part → IsPart true part
 part-may-be-replaced (Encoded text) h = h
 part-may-be-replaced (InUtf8 text) h = h
@@ -96,7 +98,7 @@ mixed-of-decoded w is_last a ahead x h = record {
   written_is = h.written_is;
 }
 
--- Mixed bytes are mixed if some may be replaced too.
+-- Mixed text without replaced bytes is also mixed text in which bytes may be replaced.
 pub mixed-may-be-replaced : (f : Flavor) (bytes text : List ℕ) → IsMixed false f bytes text → IsMixed true f bytes text
 mixed-may-be-replaced f bytes text h = record {
   parts = h.parts;
@@ -125,7 +127,7 @@ mixed-step-of-decoded w bytes is_last room step h = record {
   damage = h.damage;
 }
 
--- What is written at the start of a buffer.
+-- The first `len` bytes of the buffer are what was written.
 pub written-front : (answer old new : List ℕ) (len : ℕ) → StandsAtFront answer len old new →
     (len ≤ length new) × (take len new ≡ answer)
 written-front answer old new len h =
@@ -186,7 +188,7 @@ converted-step c from to widest bytes is_last old new p step text_of to_is damag
           h.malformed.0 (sym a.2 ∙ n) more follows));
     }
 
--- A call on the first bytes alone is a mixed step.
+-- A call on a prefix of the bytes is a step of the mixed conversion.
 pub front-step : (w : FlavorWord) (bytes : List ℕ) (is_last : Bool) (len widest : ℕ) (old new : List ℕ) (p : Progress) →
     ConvertsPiece (encoding (flavor_of w)) utf8 widest (take len bytes) p old new →
     IsStep (Mixed w) bytes is_last new (record { read = p.read; written = p.written; replaced = 0; next = next.Step })
@@ -208,7 +210,7 @@ front-step w bytes is_last len widest old new p h =
       damage = λ n. cc;
     }
 
--- UTF-8 at the start of the bytes that is passed through is a mixed step.
+-- Passing UTF-8 at the start of the bytes through is a step of the mixed conversion.
 pub passed-step : (w : FlavorWord) (bytes : List ℕ) (is_last : Bool) (room : List ℕ) (len : ℕ) → len ≤ length bytes →
     len ≤ length room → IsUtf8 (take len bytes) → take len room ≡ take len bytes →
     IsStep (Mixed w) bytes is_last room (record { read = len; written = len; replaced = 0; next = next.Step })
@@ -225,7 +227,7 @@ passed-step w bytes is_last room len within fits u same = record {
   damage = λ n. cc;
 }
 
--- A step that takes nothing.
+-- A step that reads and writes nothing keeps the promise if it says correctly what it needs.
 pub nothing-step : (c : Conversion) (bytes : List ℕ) (is_last : Bool) (room : List ℕ) (step : Step) (after : Next) →
     step.read ≡ 0 → step.written ≡ 0 → step.next ≡ after → (after ≡ next.Input → is_last ≡ false) → after ≢ next.Stop →
     IsStep c bytes is_last room step
@@ -254,7 +256,7 @@ reading-of-damage places has f byte rest none =
     (rw same (λ c more begins. none c (record { scalar = begins.scalar; rest = more; bytes_are = begins.bytes_are })), cut.2))
     ∙ ap (λ x. 0xFFFD ∷ x) (places f rest cut.0 cut.1 cut.2)
 
--- A damaged byte is replaced lossily,
+-- Replacing a damaged byte by U+FFFD is a lossy conversion of this byte,
 pub lossy-replaces : Places → HasGreedyCutting → (w : FlavorWord) (is_last : Bool) (byte : ℕ) (rest : List ℕ) →
     IsDamagedAhead (Decode w) is_last (byte ∷ rest) →
     Converts (Lossy w) is_last (byte ∷ []) rest (0xEF ∷ 0xBF ∷ 0xBD ∷ [])
@@ -264,7 +266,7 @@ lossy-replaces places has w is_last byte rest damage = record {
   written_is = sym utf8-of-replacement;
 }
 
--- and in mixed input.
+-- and a conversion of mixed text.
 pub mixed-replaces : (w : FlavorWord) (is_last : Bool) (byte : ℕ) (rest : List ℕ) →
     IsDamagedAhead (Mixed w) is_last (byte ∷ rest) →
     Converts (MixedLossy w) is_last (byte ∷ []) rest (0xEF ∷ 0xBF ∷ 0xBD ∷ [])
@@ -274,7 +276,7 @@ mixed-replaces w is_last byte rest damage = record {
   written_is = sym utf8-of-replacement;
 }
 
--- The first byte of some.
+-- The replacement of the first byte, if there is one.
 pub first-replaced : (c d : Conversion) (bytes : List ℕ) (is_last : Bool) → ((byte : ℕ) (rest : List ℕ) →
     IsDamagedAhead c is_last (byte ∷ rest) → Converts d is_last (byte ∷ []) rest (0xEF ∷ 0xBF ∷ 0xBD ∷ [])) →
     0 < length bytes → IsDamagedAhead c is_last bytes →

@@ -1,4 +1,6 @@
--- What a step promises.
+-- What a step of a conversion promises. A step reads bytes at the start of the unread input, and
+-- writes to the start of a buffer. `next` says what it needs to continue: more input, a larger
+-- buffer, nothing (another step), or that it stopped at damage.
 use Rattle.std.specs.Prelude.{◌≡◌, ◌≢◌, ℕ, ◌<◌, ◌≤◌, ◌⊎◌, Bool, true, if◌then◌else◌, List, [], ◌∷◌, length, take, drop}
 use Rattle.cesu8_stream.specs.declared.progress.Progress.{Progress}
 use Rattle.cesu8_stream.specs.declared.progress.State.{State}
@@ -9,29 +11,30 @@ use Rattle.cesu8conv.specs.declared.step.Step.{Step}
 use Rattle.cesu8conv.specs.declared.step.Next.{Next}
 use Rattle.cesu8conv.specs.declared.step.Next.TheVariants as next
 
--- A step took bytes at the start, and what they became is at the start of the buffer.
+-- A step read `step.read` bytes, and their conversion is at the start of the buffer.
 pub record IsStep (c : Conversion) (bytes : List ℕ) (is_last : Bool) (room : List ℕ) (step : Step) : Type 0 where
   pub within : step.read ≤ length bytes
   pub fits : step.written ≤ length room
   pub converts : Converts c is_last (take step.read bytes) (drop step.read bytes) (take step.written room)
-  -- At the end of the input, a step that needs more has taken all.
+  -- At the end of the input, a step that needs more input has read all.
   pub all : step.next ≡ next.Input → is_last ≡ true → drop step.read bytes ≡ []
   -- A step that stops has bytes left, and they begin with damage.
   pub left : step.next ≡ next.Stop → step.read < length bytes
   pub damage : step.next ≡ next.Stop → IsDamagedAhead c is_last (drop step.read bytes)
 
--- What comes after a call of `cesu8_stream`.
+-- What a step needs after a call of `cesu8_stream` that returned this state.
 abbrev pub next_after : State → Bool → Next
 next_after states.InputEmpty is_last = next.Input
 next_after states.OutputFull is_last = next.Room
 next_after states.Incomplete is_last = if is_last then next.Stop else next.Input
 next_after states.Malformed is_last = next.Stop
 
+-- The step has the progress of a call of `cesu8_stream`.
 abbrev pub IsAfter : Progress → Bool → Step → Type 0
 IsAfter front is_last step =
     (step.read ≡ front.read) × (step.written ≡ front.written) × (step.next ≡ next_after front.state is_last)
 
--- The step stays, but for what comes next: it does not stop.
+-- The result is the step, except that it does not stop: nothing is replaced.
 pub record GoesOn (step : Step) (old new : List ℕ) (result : Step) : Type 0 where
   pub read : result.read ≡ step.read
   pub written : result.written ≡ step.written
@@ -39,7 +42,7 @@ pub record GoesOn (step : Step) (old new : List ℕ) (result : Step) : Type 0 wh
   pub never_stops : result.next ≢ next.Stop
   pub needs_input : result.next ≡ next.Input → step.next ≡ next.Input
 
--- A step that stopped at the first byte becomes one that writes U+FFFD for it.
+-- The step stopped at the first byte, and the result writes U+FFFD for this byte.
 pub record ReplacesFirst (step : Step) (new : List ℕ) (result : Step) : Type 0 where
   pub stops : step.next ≡ next.Stop
   pub nothing_read : step.read ≡ 0
@@ -49,5 +52,6 @@ pub record ReplacesFirst (step : Step) (new : List ℕ) (result : Step) : Type 0
   pub fits : 3 ≤ length new
   pub replacement : take 3 new ≡ 0xEF ∷ 0xBF ∷ 0xBD ∷ []
 
+-- What `replace` in step.rt returns for a step: it replaces one damaged byte, or nothing.
 abbrev pub Replaces : Step → (old new : List ℕ) → Step → Type 0
 Replaces step old new result = GoesOn step old new result ⊎ ReplacesFirst step new result

@@ -1,5 +1,6 @@
-//! Every cut of short texts, and buffers of every size around the length of their result. What is
-//! expected is written by hand, from the tables of UTR 26, of Java's `DataInput` and of RFC 3629.
+//! Every cut of short texts into two pieces, and buffers of every size around the length of their
+//! result. The expected results are written by hand, from the tables of UTR 26, of Java's
+//! `DataInput` and of RFC 3629.
 
 use cesu8_stream::{Progress, State, mutf8};
 use std::alloc::{AllocError, Global};
@@ -80,14 +81,15 @@ impl Call {
     }
 }
 
-/// Returns two parts, one after the other.
+/// Joins two parts.
 fn join(alloc: Global, first: &[u8], second: &[u8]) -> Result<Vec<u8>, AllocError> {
     let mut both = Vec::from_slice(alloc, first)?;
     both.extend_from_slice(second)?;
     Ok(both)
 }
 
-/// Tests each cut of two characters.
+/// Tests each cut of two characters, which have at most 12 bytes: the call must read the whole
+/// characters before the cut.
 fn expect_cuts(
     rt: &impl Abort,
     alloc: Global,
@@ -136,7 +138,8 @@ fn reads_whole_characters_before_each_cut(rt: HostRuntime) -> Result<(), Fail> {
     Ok(())
 }
 
-/// Tests two characters and a buffer of each size.
+/// Tests two characters with a buffer of each size: the call must write the whole characters that
+/// fit, and leave the rest of the buffer unchanged.
 fn expect_sizes(
     rt: &impl Abort,
     alloc: Global,
@@ -181,7 +184,7 @@ fn writes_what_fits_in_each_buffer(rt: HostRuntime) -> Result<(), Fail> {
     Ok(())
 }
 
-/// Bytes that begin with no character, whatever follows, and the calls that say so.
+/// Bytes with which no character begins, whatever follows, and the calls for which this holds.
 const MALFORMED: [(&[Call], &[u8]); 16] = [
     (&DECODE_AND_ENCODE, b"\x80"),
     (&DECODE_AND_ENCODE, b"\xBF\x80"),
@@ -249,7 +252,7 @@ pub fn decode_lossy(is_mutf8: bool, bytes: &[u8], is_last: bool, buf: &mut [u8])
     }
 }
 
-/// Tests one cut of damaged bytes.
+/// Tests one cut of damaged bytes: two calls together must write their lossy reading.
 fn expect_damage(
     rt: &impl Abort,
     alloc: Global,

@@ -9,8 +9,8 @@ ghost use Rattle.uses.specs.Pieces.{received};
 use simd_cesu8::{DecodeFault, laws};
 use std::alloc::{AllocError, Global};
 
-/// Appends the text of the kept bytes and of a piece behind them, as far as it is whole, and keeps
-/// the rest for the next piece. After an error the text and the kept bytes are as before.
+/// Appends the text of the kept bytes followed by a piece, up to the last whole character, and
+/// keeps the rest for the next piece. After an error the text and the kept bytes are unchanged.
 ///
 /// The rest is the beginning of a character, of at most five bytes, or begins with damage.
 ///

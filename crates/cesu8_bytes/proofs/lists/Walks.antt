@@ -1,9 +1,9 @@
--- A loop over a list that has found no element with a property so far.
+-- The invariant of a loop that searches a list: no element before the index has the property.
 use Rattle.std.proofs.lemmas.Grind.{common_steps}
 use Rattle.std.proofs.Common.{◌≡◌, ℕ, ◌+◌, ◌<◌, List, arith, length, get_or}
 
 module _ {X : Type 0} (P : X → Type 0) (xs : List X) where
-  -- P holds of no element before the index.
+  -- P holds of no element before the index. `get_or xs i x ≡ x` says that x is element i.
   abbrev pub NoneBefore : ℕ → Type 0
   NoneBefore n = (i : ℕ) (x : X) → i < n → i < length xs → get_or xs i x ≡ x → P x → ⊥
 

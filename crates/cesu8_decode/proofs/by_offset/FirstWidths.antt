@@ -1,6 +1,6 @@
 -- The width of the character that begins some bytes.
-use Rattle.std.proofs.Common.{◌≡◌, ℕ, ◌<◌, ◌≤◌, List, [], ◌∷◌, ◌++◌, Option, Some, None, ◌⊎◌, inl, inr, refl, sym, ap, ◌∙◌, ⊎_elim, arith, drop, length, length-append}
-use Rattle.std.proofs.lemmas.Bool.{cases_eq, cases_lt}
+use Rattle.std.proofs.Common.{◌≡◌, ℕ, ◌<◌, ◌≤◌, List, [], ◌∷◌, ◌++◌, Option, Some, None, ◌⊎◌, inl, refl, sym, ap, ◌∙◌, ⊎_elim, arith, drop, length, length-append}
+use Rattle.std.proofs.lemmas.Bool.{cases_lt}
 use Rattle.cesu8_text.specs.Text.{IsScalarValue}
 use Rattle.cesu8_text.specs.Encoding.{Flavor, Cesu8, Mutf8, encoding}
 use Rattle.cesu8_text.specs.Reading.{BeginsWith, NoneBegins, width, width_of, standing}
@@ -13,9 +13,7 @@ use Rattle.cesu8_text.proofs.reading.Standing.{standing_begins}
 -- ASCII is encoded as its byte, or as C0 80.
 pub ascii_forms : (f : Flavor) (c : ℕ) → c < 0x80 → (encoding f (c ∷ []) ≡ c ∷ []) ⊎ ((c ≡ 0) × (encoding f (c ∷ []) ≡ 0xC0 ∷ 0x80 ∷ []))
 ascii_forms Cesu8 c ascii = inl (encoding_one Cesu8 c ascii)
-ascii_forms Mutf8 c ascii =
-    ⊎_elim (λ null. inr (null, encoding_one Mutf8 c ascii ∙ short_form_null c null))
-    (λ some. inl (encoding_one Mutf8 c ascii ∙ short_form_other Mutf8 c some)) (cases_eq c 0)
+ascii_forms Mutf8 c ascii = grind (arith, encoding_one, short_form_null, short_form_other)
 
 -- The encoding of a character, and whatever follows it, begins with this character.
 pub begins_encoded : (f : Flavor) (c : ℕ) (prefix rest : List ℕ) → IsScalarValue c → encoding f (c ∷ []) ≡ prefix →

@@ -7,12 +7,6 @@ use Rattle.cesu8_decode.specs.DecodedOffsets.{first_width, saved, total_saved, s
 use Rattle.cesu8_decode.proofs.by_offset.FirstWidths.{encoded_widths, width_of_none}
 use Rattle.cesu8_decode.proofs.by_offset.WindowOffsets.{Follows, follows_later, width_following, saved_split}
 
--- Empty input saves nothing.
-pub empty_saves : (f : Flavor) (bytes : List ℕ) → length bytes ≡ 0 → total_saved f bytes ≡ 0
-unfolding total_saved
-empty_saves f [] none = refl
-empty_saves f (b ∷ bytes) none = absurd (omega arith)
-
 module _ (f : Flavor) where
   -- Offsets at which no character begins save nothing.
   free : (prefix rest : List ℕ) → ((j : ℕ) → j < length prefix → first_width f (drop j (prefix ++ rest)) ≡ 0) →

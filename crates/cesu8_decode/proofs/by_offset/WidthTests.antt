@@ -1,4 +1,6 @@
--- The width of the character that begins some bytes, by tests of the first six bytes.
+-- The width of the character at the start of some bytes, 0 if there is none, is found by five tests
+-- of the first six bytes: one for each form of an encoded character. a, b, d, e, g and h are these
+-- bytes.
 use Rattle.std.proofs.lemmas.Bool.Decides.{nat_tests}
 use Rattle.std.proofs.Common.{◌≡◌, ℕ, ◌<◌, ◌≤◌, ◌⊎◌, ⊎_elim, Bool, cond, true, false, eqb, leb, ltb, List, [], ◌∷◌, ◌∙◌, arith, length, get_or}
 use Rattle.std.proofs.lemmas.Bool.{and_parts, and_from, eqb-true, leb-true, ltb-true, le-leb, lt-ltb, cases_lt}
@@ -11,7 +13,8 @@ use Rattle.cesu8_text.proofs.encoding.Patterns.{Pattern, pattern}
 use Rattle.cesu8_text.proofs.encoding.Found.{BeginsInLengths, found_one, found_null, found_two, found_three, found_pair}
 use Rattle.cesu8_decode.proofs.by_offset.FirstWidths.{width_of_first, width_of_none}
 
--- Bytes with a byte that is not 0 are longer than its offset.
+-- If the byte at an offset is not 0, the bytes are longer than the offset: `get_or` is 0 after the
+-- end.
 pub long_by : (bytes : List ℕ) (i : ℕ) → 0 < get_or bytes i 0 → i < length bytes
 long_by bytes i some = ⊎_elim (λ h. h) (λ past. absurd (omega (arith, get_or_past bytes i 0 past))) (cases_lt i (length bytes))
 
@@ -21,6 +24,7 @@ continuation b t = let h = and_parts (leb 0x80 b) (ltb b 0xC0) t in (leb-true 0x
 pub is_continuation : (b : ℕ) → 0x80 ≤ b → b < 0xC0 → continues b ≡ true
 is_continuation b low high = and_from (leb 0x80 b) (ltb b 0xC0) (le-leb 0x80 b low) (lt-ltb b 0xC0 high)
 
+-- If the bytes begin with a character of m bytes, the width is m.
 by_found : (f : Flavor) (bytes : List ℕ) (m n : ℕ) → BeginsInLengths f bytes m n → first_width f bytes ≡ m
 by_found f bytes m n found = width_of_first f bytes found.character found.rest found.begins ∙ found.encoded
 
@@ -68,6 +72,7 @@ abbrev pub AllFail : Flavor → (a b d e g h : ℕ) → Type 0
 AllFail f a b d e g h =
     (one_at f a ≡ false) × (null_at f a b ≡ false) × (two_at a b ≡ false) × (three_at a b d ≡ false) × (pair_at a b d e g h ≡ false)
 
+-- If all tests fail, the bytes have no pattern of an encoded character, so the width is 0.
 no_pattern : (f : Flavor) (bytes : List ℕ) (c : ℕ) →
     AllFail f (get_or bytes 0 0) (get_or bytes 1 0) (get_or bytes 2 0) (get_or bytes 3 0) (get_or bytes 4 0) (get_or bytes 5 0) →
     Pattern f bytes c → ⊥
@@ -80,19 +85,21 @@ none_found f bytes fail = width_of_none f bytes (λ c rest begins. no_pattern f 
 
 -- ---- prefixes
 
--- A number is the width if it is what the first test that passes says.
+-- A number that agrees with each test that passes, and is 0 if none does, equals the chain of
+-- tests.
 by_tests : (one null two three pair : Bool) (n : ℕ) → (one ≡ true → n ≡ 1) → (null ≡ true → n ≡ 2) → (two ≡ true → n ≡ 2) → (three ≡ true → n ≡ 3) → (pair ≡ true → n ≡ 6) →
     ((one ≡ false) × (null ≡ false) × (two ≡ false) × (three ≡ false) × (pair ≡ false) → n ≡ 0) →
     n ≡ cond one 1 (cond null 2 (cond two 2 (cond three 3 (cond pair 6 0))))
 by_tests one null two three pair n h1 h2 h3 h4 h5 none = grind arith
 
--- The width depends on six bytes alone.
+-- The width is the result of the chain of tests, so it depends only on the first six bytes.
 pub width_by_six : (f : Flavor) (bytes : List ℕ) → 0 < length bytes → first_width f bytes ≡ width_at f bytes 0
 unfolding first_width_by
 width_by_six f bytes some =
     by_tests _ _ _ _ _ (first_width f bytes) (one_found f bytes some) (null_found f bytes) (two_found f bytes) (three_found f bytes) (pair_found f bytes) (none_found f bytes)
 
--- What a width says about the tests.
+-- What the chain of tests says: the width is at most 3, or 6; it is 1 exactly if the first test
+-- passes, and 6 only if the last one does.
 by_chain : (one null two three pair : Bool) → let w : ℕ = cond one 1 (cond null 2 (cond two 2 (cond three 3 (cond pair 6 0)))) in
     ((w ≤ 3) ⊎ (w ≡ 6)) × (eqb w 1 ≡ one) × (leb 1 w ≡ cond (leb w 1) one true) × (w ≡ 6 → pair ≡ true)
     × (w ≡ 3 → three ≡ true) × (w ≡ 2 → (null ≡ true) ⊎ (two ≡ true))

@@ -57,10 +57,7 @@ byte_decoded_alike f a b i j agree =
 pub decoded_agrees : (f : Flavor) (a b : List ℕ) (i j n : ℕ) → Agree a b i j (n + 10) → decoded f a i n ≡ decoded f b j n
 unfolding decoded
 decoded_agrees f a b i j zero agree = refl
-decoded_agrees f a b i j (suc n) agree =
-    let here = byte_decoded_alike f a b i j (λ k small. agree k (omega arith)) in
-    let rest = decoded_agrees f a b (i + 1) (j + 1) n (agree_later a b i j (suc n + 10) 1 (n + 10) (omega arith) agree) in
-    (λ k. here k ++ rest k)
+decoded_agrees f a b i j (suc n) agree = grind (arith, byte_decoded_alike, agree_later, decoded_agrees f a b (i + 1) (j + 1) n (agree_later a b i j (suc n + 10) 1 (n + 10) (omega arith) agree))
 
 -- What is written for m + n bytes is what is written for the first m, and then for the other n.
 pub decoded_split : (f : Flavor) (window : List ℕ) (i m n : ℕ) →

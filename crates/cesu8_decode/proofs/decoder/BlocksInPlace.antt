@@ -14,7 +14,7 @@ use Rattle.cesu8_bytes.specs.declared.strictness.Strictness.TheVariants.{Strict,
 use Rattle.cesu8_bytes.specs.Puts.{WritesAt}
 use Rattle.cesu8_bytes.specs.TextChunks.{IsReadSoFar}
 use Rattle.cesu8_bytes.proofs.vectors.Loads.{padded, zeros_at}
-use Rattle.cesu8_decode.specs.DecodedOffsets.{goes_at, byte_at, window_of, is_ill_formed_at, decoded_byte, decoded_at, decoded}
+use Rattle.cesu8_decode.specs.DecodedOffsets.{window_of, is_ill_formed_at, decoded_byte, decoded}
 use Rattle.cesu8_decode.specs.Decoding.{IsDecoded, WritesDecoded, most_written, most_of_text}
 use Rattle.cesu8_decode.proofs.by_offset.IllFormed.{IsChunk}
 use Rattle.cesu8_decode.proofs.by_offset.WindowOffsets.{is_boundary_at, Agree, agree_later, follows_zeros, ill_formed_agrees, decoded_agrees, decoded_split}
@@ -39,23 +39,8 @@ pub no_longer : (f : Flavor) (which : Strictness) (window : List ℕ) (at n : �
 unfolding decoded decoded_byte
 no_longer f Strict window at zero fine = omega arith
 no_longer f Lossy window at zero fine = omega arith
-no_longer f Strict window at (suc n) fine =
-    let is : decoded_at f window at ≡ written_for (goes_at f window at) false (byte_at f window at) =
-    ap (λ t. written_for (goes_at f window at) t (byte_at f window at)) (fine refl at (omega arith) (omega arith)) in
-    omega (
-      arith,
-      ap length is,
-      one_or_none (goes_at f window at) (byte_at f window at),
-      no_longer f Strict window (at + 1) n (λ strict i low inside. fine strict i (omega arith) (omega arith)),
-      length-append (decoded_at f window at) (decoded f window (at + 1) n),
-    )
-no_longer f Lossy window at (suc n) fine =
-    omega (
-      arith,
-      at_most_three (goes_at f window at) (is_ill_formed_at f window at) (byte_at f window at),
-      no_longer f Lossy window (at + 1) n (λ strict i low inside. fine strict i (omega arith) (omega arith)),
-      length-append (decoded_at f window at) (decoded f window (at + 1) n),
-    )
+no_longer f Strict window at (suc n) fine = grind (arith, nat_tests, one_or_none, length-append, no_longer f Strict window (at + 1) n (λ strict i low inside. fine strict i (omega arith) (omega arith)))
+no_longer f Lossy window at (suc n) fine = grind (arith, nat_tests, at_most_three, length-append, no_longer f Lossy window (at + 1) n (λ strict i low inside. fine strict i (omega arith) (omega arith)))
 
 -- The greatest length for n + m bytes is that for n bytes and that for m bytes together.
 pub most_of_more : (which : Strictness) (n m : ℕ) → most_written which (n + m) ≡ most_written which n + most_written which m

@@ -129,12 +129,7 @@ module _ (f : Flavor) (bytes : List ℕ) where
       take n (drop at bytes) ≡ decoded f (window_of bytes) at n
   unfolding decoded
   kept_range at zero fits kept = refl
-  kept_range at (suc n) fits kept =
-      let rest = kept_range (at + 1) n (omega arith) (λ i low inside. kept i (omega arith) (omega arith)) in
-      let next : suc at ≡ at + 1 = omega arith in
-      let first = sym (kept at (omega arith) (omega arith)) in
-      let others = ap (λ p. take n (drop p bytes)) next ∙ rest in
-      ap (take (suc n)) (drop-cons bytes at 0 (omega arith)) ∙ (λ k. first k ++ others k)
+  kept_range at (suc n) fits kept = grind (arith, nat_tests, drop-cons, kept_range (at + 1) n (omega arith) (λ i low inside. kept i (omega arith) (omega arith)))
 
   -- After a boundary, bytes in which no event begins are unchanged.
   pub kept_decoded : (at n : ℕ) → at + n ≤ length bytes → is_boundary_at f (window_of bytes) at ≡ true → ((i : ℕ) → at ≤ i → i < at + n → Stays f bytes i) →
@@ -251,10 +246,7 @@ module _ (f : Flavor) (bytes : List ℕ) where
       utf8 (replicate n 0xFFFD) ≡ decoded f (window_of bytes) at n
   unfolding decoded decoded_byte utf8_of
   ill_formed_decoded at zero ill = refl
-  ill_formed_decoded at (suc n) ill =
-      let rest = ill_formed_decoded (at + 1) n (λ i low inside. ill i (omega arith) (omega arith)) in
-      let first = replaced_at at (ill at (omega arith) (omega arith)) in
-      (λ k. first k ++ rest k)
+  ill_formed_decoded at (suc n) ill = grind (arith, nat_tests, replaced_at, ill_formed_decoded (at + 1) n (λ i low inside. ill i (omega arith) (omega arith)))
 
 -- ---- replacement characters
 

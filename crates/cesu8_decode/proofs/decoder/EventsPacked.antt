@@ -55,13 +55,7 @@ range_same g h a b (suc n) same =
 -- If each offset gives one byte, n offsets give n bytes.
 pub range_length : (h : ℕ → List ℕ) (a n : ℕ) → ((i : ℕ) → a ≤ i → i < a + n → length (h i) ≡ 1) → length (flat_map h (range_with_len a n)) ≡ n
 range_length h a zero one = refl
-range_length h a (suc n) one =
-    omega (
-      arith,
-      length-append (h a) (flat_map h (range_with_len (a + 1) n)),
-      one a (omega arith) (omega arith),
-      range_length h (a + 1) n (λ i low inside. one i (omega arith) (omega arith)),
-    )
+range_length h a (suc n) one = grind (arith, nat_tests, length-append, range_length h (a + 1) n (λ i low inside. one i (omega arith) (omega arith)))
 
 -- If each offset gives at most one byte, n offsets give at most n bytes.
 pub range_few : (h : ℕ → List ℕ) (a n : ℕ) → ((i : ℕ) → length (h i) ≤ 1) → length (flat_map h (range_with_len a n)) ≤ n

@@ -1,5 +1,5 @@
 -- What the bits of a mask say about the lanes of a vector.
-use Rattle.std.proofs.Common.{◌≡◌, ℕ, zero, suc, ◌+◌, ◌<◌, ◌≤◌, Bool, false, leb, List, ◌∷◌, ◌++◌, refl, sym, ap, ◌∙◌, arith, map, length, replicate, append-nil, get_or, take_all, Fits, w8}
+use Rattle.std.proofs.Common.{◌≡◌, ℕ, zero, suc, ◌+◌, ◌<◌, ◌≤◌, Bool, false, leb, List, ◌++◌, refl, sym, ap, ◌∙◌, arith, map, length, replicate, append-nil, get_or, take_all, Fits, w8}
 use Rattle.std.specs.List.{range_with_len}
 use Rattle.std.proofs.lemmas.Bool.{cases_Bool, leb-false}
 use Rattle.std.proofs.lemmas.Simd.{Each1-get_or, map-map, pick_l-range_with_len}
@@ -32,10 +32,7 @@ all_below window least at n room none i low inside =
 pub on_range : {X : Type 0} (g h : ℕ → X) (a n : ℕ) → ((i : ℕ) → a ≤ i → i < a + n → g i ≡ h i) →
     map g (range_with_len a n) ≡ map h (range_with_len a n)
 on_range g h a zero same = refl
-on_range g h a (suc n) same =
-    let first = same a (omega arith) (omega arith) in
-    let rest = on_range g h (a + 1) n (λ i low inside. same i (omega arith) (omega arith)) in
-    λ k. first k ∷ rest k
+on_range g h a (suc n) same = grind (arith, on_range g h (a + 1) n (λ i low inside. same i (omega arith) (omega arith)))
 
 -- ---- the lanes of a vector
 

@@ -1,4 +1,7 @@
--- Which bytes of a block can follow the bytes before them.
+-- A block of 32 bytes is valid if each byte can follow the four bytes before it (`follows` in
+-- specs/Following). This module proves that the error mask that the code computes by table look-ups
+-- marks the bytes that cannot, and that the prefix that the blocks accept is that of the whole
+-- input. A lane is "marked" if it is at least 80 (hexadecimal).
 use Rattle.std.proofs.Common.{◌≡◌, ℕ, ◌+◌, ◌<◌, ◌≤◌, ◌||◌, ⊎_elim, Bool, true, false, cond, List, [], ◌∷◌, map, length, get_or, replicate, eqb, leb, ltb, bit_or, refl, sym, ap, ◌∙◌, subst, arith, drop, ◌-◌, ◌++◌, not, add-zero, take}
 use Rattle.std.specs.List.{range_with_len, prefix_len}
 use Rattle.std.proofs.lemmas.Bool.{agree_below_at, leb-false, ltb-true, not-false, not-true, or_parts, cases_lt}
@@ -24,9 +27,11 @@ use Rattle.std.proofs.lemmas.Nat.{le_or_l, le_or_r, or_lt}
 high_or : (a b : ℕ) → leb 0x80 (bit_or a b) ≡ (leb 0x80 a || leb 0x80 b)
 high_or a b = grind (arith, nat_tests, or_lt 7 a b, le_or_l a b, le_or_r a b)
 
+-- Selecting by the highest bits of a mask inverts it.
 unlike : (t : Bool) → cond (top 7 (ones t)) 0 0xFF ≡ mask (not t)
 unlike t = grind arith
 
+-- A mask byte is marked exactly if the test holds.
 of_mask : (t : Bool) → leb 0x80 (mask t) ≡ t
 of_mask t = grind arith
 
@@ -35,9 +40,11 @@ of_mask t = grind arith
 abbrev pub marked_if_not_one : Flavor → ℕ → ℕ
 marked_if_not_one f b = bit_or b (cond (is_null f b) 0xFF 0)
 
+-- A byte that is not marked is ASCII and no null.
 low_lane : (f : Flavor) (b : ℕ) → leb 0x80 (marked_if_not_one f b) ≡ false → (b < 0x80) × (is_null f b ≡ false)
 low_lane f b low = grind (arith, nat_tests, or_parts, high_or, leb-false, of_mask)
 
+-- ASCII that is no null can follow four bytes of ASCII.
 ascii_fits : (s : CharacterSet) (f : Flavor) (a b d e g : ℕ) → a < 0x80 → b < 0x80 → d < 0x80 → e < 0x80 → g < 0x80 → is_null f g ≡ false →
     follows s f a b d e g ≡ true
 unfolding shown
@@ -48,6 +55,8 @@ pub marks_are : (t : ℕ → Bool) (lanes ns : List ℕ) → lanes ≡ map (λ i
 marks_are t lanes ns is =
     ap (map (leb 0x80)) is ∙ map-map (leb 0x80) (λ i. mask (t i)) ns ∙ ap (λ test. map test ns) (λ i k. of_mask (t k) i)
 
+-- If a function does not depend on its first argument, `zip2` does not depend on the first list,
+-- and likewise for the second argument.
 first_alike : {A : Type 0} (g : ℕ → ℕ → A) → ((a c b : ℕ) → g a b ≡ g c b) → (xs us ys : List ℕ) → length xs ≡ length us → zip2 g xs ys ≡ zip2 g us ys
 first_alike g alike [] [] ys long = refl
 first_alike g alike [] (u ∷ us) ys long = absurd (omega (arith, long))
@@ -144,6 +153,8 @@ pub in_both : (s : CharacterSet) (f : Flavor) (window : List ℕ) (at : ℕ) →
 in_both s f window at first second i low inside =
     ⊎_elim (λ (before : i < at + 32). first i low before) (λ (later : at + 32 ≤ i). second i later (omega arith)) (cases_lt i (at + 32))
 
+-- If no lane of two successive blocks is marked and the four bytes before them are ASCII, all 64
+-- bytes can follow the bytes before them.
 pub two_plain : (s : CharacterSet) (f : Flavor) (window : List ℕ) (at : ℕ) (xs ys : List ℕ) →
     xs ≡ map (λ i. marked_if_not_one f (get_or window (i + 4) 0)) (range_with_len at 32) →
     ys ≡ map (λ i. marked_if_not_one f (get_or window (i + 4) 0)) (range_with_len (at + 32) 32) →
@@ -184,11 +195,12 @@ module _ (s : CharacterSet) (f : Flavor) (window : List ℕ) (at n len : ℕ) (l
 
 -- ---- the place of a block
 
--- Whether a byte can follow depends on five bytes.
+-- Whether a byte can follow depends only on it and the four bytes before it.
 pub follows_agrees : (s : CharacterSet) (f : Flavor) (a b : List ℕ) (i j : ℕ) → ((k : ℕ) → k < 5 → get_or a (i + k) 0 ≡ get_or b (j + k) 0) →
     follows_at s f a i ≡ follows_at s f b j
 follows_agrees s f a b i j agree = grind (arith, nat_tests, add-zero)
 
+-- Byte i is byte i + 4 after the four zeros.
 pub behind_fillers : (bytes : List ℕ) (i : ℕ) → get_or (after_fillers bytes) (i + 4) 0 ≡ get_or bytes i 0
 behind_fillers bytes i = grind (arith, nat_tests)
 
@@ -242,6 +254,7 @@ first_of_front s f bytes m n fits first =
       follow = λ k before. follows_in_front s f bytes m k fits (omega (arith, before, first.within)) ∙ first.follow k before;
     }
 
+-- The first byte of a prefix that cannot follow is also the first one of all bytes.
 pub stop_in_front : (s : CharacterSet) (f : Flavor) (bytes : List ℕ) (m n : ℕ) → m ≤ length bytes → n < m → FollowUpTo s f (take m bytes) n → FollowUpTo s f bytes n
 stop_in_front s f bytes m n fits before up_to = record {
   first = first_of_front s f bytes m n fits up_to.first;

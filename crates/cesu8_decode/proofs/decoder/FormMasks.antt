@@ -1,8 +1,8 @@
 -- The masks of all forms of characters at the first offsets, from masks of classes of bytes.
-use Rattle.std.proofs.Common.{◌≡◌, ℕ, zero, suc, ◌∷◌, map, add-zero, ◌+◌, ◌/◌, ◌^◌, ◌<◌, ◌≤◌, Bool, true, false, not, ◌&&◌, ◌||◌, eqb, leb, ltb, List, get_or, bit_and, bit_or, ap, sym, ◌∙◌, refl, arith, w64, zero-add}
+use Rattle.std.proofs.Common.{◌≡◌, ℕ, zero, suc, ◌∷◌, map, add-zero, ◌+◌, ◌/◌, ◌^◌, ◌<◌, ◌≤◌, Bool, true, false, not, ◌&&◌, ◌||◌, eqb, leb, ltb, List, get_or, bit_and, bit_or, ap, sym, ◌∙◌, refl, arith, w64, zero-add, Fits, w8}
 use Rattle.std.specs.Int.{bit_not}
 use Rattle.std.specs.List.{range_with_len}
-use lib.Lanes.{mask_l}
+use lib.Lanes.{mask_l, Each1}
 use Rattle.cesu8_bytes.specs.Pairs.{null_at}
 use Rattle.std.proofs.lemmas.Bool.{lt-ltb}
 use Rattle.cesu8_text.specs.Class.{is_null}
@@ -11,7 +11,7 @@ use Rattle.cesu8_decode.specs.DecodedOffsets.{continues, one_at, two_at, three_a
 use Rattle.cesu8_decode.specs.Masks.{HasBits, AreMasks, Marks, has_bit_below, is_long_lead_at, is_other_at, is_two_at, is_three_at, is_six_at, is_pair_at, is_null_at}
 use Rattle.cesu8_decode.specs.declared.lanes.masks.Masks.{Masks}
 use Rattle.cesu8_decode.proofs.by_offset.WindowOffsets.{Agree, agree_later, width_agrees}
-use Rattle.cesu8_decode.proofs.decoder.MaskBits.{told_by, and_bits, or_bits, without_bits, later_bits, none_set, no_marks, marks_first}
+use Rattle.cesu8_decode.proofs.decoder.MaskBits.{class_bits, lanes_below, told_by, and_bits, or_bits, without_bits, later_bits, none_set, no_marks, marks_first}
 use Rattle.cesu8_decode.proofs.decoder.MaskTests.{continuation_bit, below_c2_bit, wide_lead_bit, two_lead_bit, other_test, one_not_null, one_not_two, one_not_three, one_not_pair, pair_width}
 use Rattle.cesu8_decode.proofs.decoder.ThreeMasks.{and_fits}
 
@@ -27,13 +27,19 @@ within p q inside none = grind arith
 first_of_two : (s t u : Bool) → t ≡ true → (s || (t && u)) ≡ (s || u)
 first_of_two s t u inside = grind arith
 
-module _ (f : Flavor) (xs : List ℕ) (small : (i : ℕ) → get_or xs i 0 < 256) where
+module _ (f : Flavor) (xs : List ℕ) (fit : Each1 (Fits w8) xs) where
   abbrev x : ℕ → ℕ
   x i = get_or xs i 0
 
+  small : (i : ℕ) → x i < 256
+  small = lanes_below xs fit
+
   -- The bytes that are no character of one byte, among the first n.
-  module _ (n lanes first high null : ℕ) (few : n ≤ lanes) (of_first : HasBits first (λ i. ltb i n))
-      (of_high : HasBits high (λ i. leb 0x80 (x i))) (of_null : HasBits null (λ i. ltb i lanes && is_null f (x i))) where
+  module _ (n : ℕ) {lanes first high null : ℕ} (few : n ≤ lanes) (of_first : HasBits first (λ i. ltb i n))
+      (high_is : high ≡ mask_l (map (leb 0x80) xs)) (of_null : HasBits null (λ i. ltb i lanes && is_null f (x i))) where
+    of_high : HasBits high (λ i. leb 0x80 (x i))
+    of_high = class_bits (leb 0x80) xs refl high_is
+
     other : (i : ℕ) → i < n → (leb 0x80 (x i) || (ltb i lanes && is_null f (x i))) ≡ is_other_at f xs i
     other i inside =
         first_of_two (leb 0x80 (x i)) (ltb i lanes) (is_null f (x i)) (lt-ltb i lanes (omega arith)) ∙ other_test f (x i)
@@ -60,9 +66,12 @@ module _ (f : Flavor) (xs : List ℕ) (small : (i : ℕ) → get_or xs i 0 < 256
         }
 
   -- The characters that begin with a byte from C2 on.
-  module _ (high below from_c2 wide : ℕ) (of_high : HasBits high (λ i. leb 0x80 (x i))) (of_below : HasBits below (λ i. has_bit_below 1 (x i)))
-      (of_c2 : HasBits from_c2 (λ i. leb 0xC2 (x i))) (of_wide : HasBits wide (λ i. has_bit_below 2 (x i)))
+  module _ {high below from_c2 wide : ℕ} (high_is : high ≡ mask_l (map (leb 0x80) xs)) (of_below : HasBits below (λ i. has_bit_below 1 (x i)))
+      (c2_is : from_c2 ≡ mask_l (map (leb 0xC2) xs)) (of_wide : HasBits wide (λ i. has_bit_below 2 (x i)))
       (high_fits : high < 2 ^ 64) (c2_fits : from_c2 < 2 ^ 64) (wide_fits : wide < 2 ^ 64) where
+    of_c2 : HasBits from_c2 (λ i. leb 0xC2 (x i))
+    of_c2 = class_bits (leb 0xC2) xs refl c2_is
+
     abbrev from_c0 : ℕ
     from_c0 = bit_and high below
 
@@ -76,7 +85,7 @@ module _ (f : Flavor) (xs : List ℕ) (small : (i : ℕ) → get_or xs i 0 < 256
     pub second_are : HasBits second (λ i. continues (x (i + 1)))
     second_are =
         later_bits 1 (told_by (λ i. continues (x i)) (λ i. continuation_bit (x i) (small i))
-        (without_bits high_fits from_c0_fits of_high (and_bits of_high of_below)))
+        (without_bits high_fits from_c0_fits (class_bits (leb 0x80) xs refl high_is) (and_bits (class_bits (leb 0x80) xs refl high_is) of_below)))
 
     -- The lead bytes from E0 on that precede a continuation byte.
     pub long_leads_are : HasBits (bit_and (bit_and from_c2 second) wide) (is_long_lead_at xs)
@@ -89,7 +98,7 @@ module _ (f : Flavor) (xs : List ℕ) (small : (i : ℕ) → get_or xs i 0 < 256
     pub below_c2_are : HasBits (bit_and from_c0 (bit_not w64 from_c2)) (λ i. leb 0xC0 (x i) && ltb (x i) 0xC2)
     below_c2_are =
         told_by (λ i. leb 0xC0 (x i) && ltb (x i) 0xC2) (λ i. below_c2_bit (x i) (small i))
-        (without_bits from_c0_fits c2_fits (and_bits of_high of_below) of_c2)
+        (without_bits from_c0_fits c2_fits (and_bits (class_bits (leb 0x80) xs refl high_is) of_below) of_c2)
 
     -- The characters of two bytes.
     pub twos_are : (n first : ℕ) → HasBits first (λ i. ltb i n) →

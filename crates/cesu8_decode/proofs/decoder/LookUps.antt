@@ -1,4 +1,6 @@
--- Look-ups of bytes in tables of sixteen entries, lane by lane.
+-- The code classifies a pair of bytes by three look-ups in tables of 16 entries, by `swizzle`.
+-- These lemmas say that the lanes get the bits that the three entries have in common (`told_are`),
+-- and when these equal a given function of two bytes (`told_alike`).
 use Rattle.std.proofs.lemmas.Bool.Decides.{nat_tests}
 use Rattle.std.proofs.lemmas.Grind.{same_number_lists}
 use Rattle.std.proofs.Common.{◌≡◌, ℕ, ◌+◌, ◌*◌, ◌/◌, ◌%◌, ◌^◌, ◌<◌, Bool, true, false, ◌&&◌, List, ◌++◌, map, length, get_or, replicate, eqb, leb, ltb, bit_and, refl, sym, ap, ◌∙◌, arith, w8}
@@ -16,11 +18,12 @@ use Rattle.cesu8_decode.proofs.decoder.FirstLanes.{lanes_are}
 pub and_false : (t : Bool) → (t && false) ≡ false
 and_false t = grind arith
 
+-- A byte with its lower half cleared.
 abbrev pub half : ℕ → ℕ
 half b = b / 0x10 * 0x10
 
--- Tables agree with a function of two bytes if they do for each first byte and each upper half of
--- the second, and the function depends on nothing else.
+-- Tables agree with a function of two bytes if they agree for each first byte and each upper half
+-- of the second, and the function does not depend on the second byte's lower half.
 abbrev tells_at : (high low next : List ℕ) → (ℕ → ℕ → ℕ) → ℕ → Bool
 tells_at high low next tells i = eqb (told high low next (i / 0x10) (i % 0x10 * 0x10)) (tells (i / 0x10) (i % 0x10 * 0x10))
 
@@ -42,9 +45,11 @@ half_tests b k = grind (arith, nat_tests)
 
 -- ---- a look-up by the lower half of each lane
 
+-- The 32 indices with which a table of 16 entries is repeated in a vector of 32 lanes.
 abbrev twice : List ℕ
 twice = range_with_len 0 16 ++ range_with_len 0 16
 
+-- The lower half of each lane: its index in the table.
 abbrev halves : List ℕ → List ℕ
 halves lanes = zip2 bit_and lanes (replicate 32 15)
 

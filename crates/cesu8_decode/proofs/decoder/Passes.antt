@@ -26,11 +26,6 @@ use Rattle.cesu8_decode.proofs.decoder.WindowEnds.{none_in_window}
 abbrev pub pass_at : (read end : ℕ) → Pass
 pass_at read end = record { read = read; end = end; is_refused = false }
 
--- The text of a window has at most three bytes for each of its bytes.
-pub most_of_window : (which : Strictness) (n : ℕ) → n ≤ 64 → most_written which n ≤ 192
-most_of_window Strict n small = omega arith
-most_of_window Lossy n small = omega arith
-
 -- What is written can follow any text.
 behind_text : (f : Flavor) (which : Strictness) (window text old new : List ℕ) (at n : ℕ) (is_refused : Bool) →
     IsDecoded f which window at n old new is_refused → IsDecoded f which window at n (text ++ old) (text ++ new) is_refused

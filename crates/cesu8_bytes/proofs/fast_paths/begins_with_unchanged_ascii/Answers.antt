@@ -1,3 +1,5 @@
+-- At least `len` lanes precede the first lane that is null or not ASCII, so the first `len` bytes
+-- are ASCII and none of them changes.
 use Rattle.std.proofs.Common.{arith, take}
 use Rattle.std.proofs.lemmas.Bool.{leb-true}
 use Rattle.cesu8_bytes.specs.declared.fast_paths.TheConstants.{SHOWN_AT_ONCE}

@@ -1,3 +1,5 @@
+-- The encoding is longer than the string by the sum of the weights: two for each four-byte lead,
+-- and in MUTF-8 one for each null. A string in std is short enough that the sum does not overflow.
 use Rattle.std.proofs.Common.{arith}
 use Rattle.cesu8_text.proofs.encoding.EncodedLength.{length_by_bytes}
 use Rattle.cesu8_bytes.proofs.lengths.encoded_len.Goals as goal

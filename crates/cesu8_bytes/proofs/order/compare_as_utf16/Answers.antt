@@ -1,3 +1,5 @@
+-- At the first difference the ranks of the two bytes decide, and if one string is a prefix of the
+-- other, the lengths do.
 use Rattle.std.proofs.Common.{◌∙◌, ◌<◌, ap, arith, length}
 use Rattle.std.specs.Ordering.{nat_cmp}
 use Rattle.cesu8_text.specs.Order.{utf16_rank}

@@ -1,3 +1,5 @@
+-- The vectors up to an offset are equal, so the first difference in the next one is the first of
+-- all.
 use Rattle.std.proofs.Common.{◌-◌, arith, rules}
 use Rattle.cesu8_bytes.proofs.lists.Prefixes.{same_further}
 use Rattle.cesu8_bytes.proofs.order.difference_by.Goals as goal

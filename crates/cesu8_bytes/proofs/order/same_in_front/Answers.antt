@@ -1,3 +1,4 @@
+-- The lowest bit of the mask is the first lane in which the vectors differ.
 use Rattle.std.proofs.Common.{◌≡◌, ◌∙◌, not}
 use Rattle.std.specs.List.{prefix_len}
 use Rattle.cesu8_bytes.proofs.lists.Prefixes.{differ, same_before, differs_there, run_within, first_of_marks}

@@ -1,3 +1,4 @@
+-- The words at the offsets so far and the last eight bytes cover all bytes.
 use Rattle.std.proofs.Common.{arith, refl}
 use Rattle.std.proofs.lemmas.Bool.{iff_false, true_from_ne_false}
 use Rattle.cesu8_bytes.proofs.lists.Words.{tested}

@@ -1,3 +1,5 @@
+-- Each computed lane is the byte that the definitions give for its offset. No addition overflows a
+-- lane: the added bits are zero before, and no byte is both null and the lead byte of four bytes.
 use Rattle.std.proofs.Common.{arith}
 use Rattle.cesu8_text.specs.Class.{is_at_least_f0, is_null}
 use Rattle.cesu8_bytes.proofs.vectors.Loads.{marks_at, marks_here}

@@ -1,3 +1,5 @@
+-- The lanes and the mask of nulls are packed to the block's encoding, whose length fits the rest of
+-- the slice.
 use Rattle.std.proofs.Common.{arith}
 use Rattle.cesu8_encode.proofs.encoder.EncodedWindows.{prefix_long}
 use Rattle.cesu8_encode.proofs.encoder.LowBlocks.{low_packed}

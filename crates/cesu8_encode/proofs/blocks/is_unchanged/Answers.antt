@@ -1,3 +1,5 @@
+-- `any_in_ends` searches the block's 32 bytes and the two before them. If none of these 34 bytes
+-- changes, the block's encoding is the block.
 use Rattle.std.proofs.Common.{◌≡◌, ◌+◌, ◌-◌, ◌||◌, arith, subst}
 use Rattle.std.proofs.lemmas.Bool.{iff_false, not-true}
 use lib.Lanes.{chunk}

@@ -1,3 +1,4 @@
+-- The indices of a shuffle are valid, and the packed content of the row follows what preceded it.
 use Rattle.std.proofs.Common.{arith}
 use Rattle.cesu8_encode.proofs.encoder.EncodedRows.{shuffle_ok, stored_row}
 use Rattle.cesu8_encode.proofs.blocks.store_row.Goals as goal

@@ -1,3 +1,4 @@
+-- The lanes of a block are packed to its encoding, whose length fits the rest of the slice.
 use Rattle.std.proofs.Common.{arith}
 use Rattle.cesu8_encode.proofs.encoder.EncodedWindows.{lanes_packed, prefix_long}
 use Rattle.cesu8_encode.proofs.blocks.write_block.Goals as goal

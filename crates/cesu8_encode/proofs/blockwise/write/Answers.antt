@@ -1,3 +1,4 @@
+-- A string of at most a block, copied between zeros, is encoded as one block (`encoded_short`).
 use Rattle.std.proofs.Common.{◌∙◌, ap, arith, length}
 use Rattle.cesu8_encode.proofs.encoder.EncodedWindows.{encoded_short}
 use Rattle.cesu8_encode.proofs.blockwise.write.Goals as goal

@@ -1,3 +1,4 @@
+-- A window with zeros before the first block and the text after it gives what the whole text gives.
 use Rattle.std.proofs.Common.{◌-◌, ◌∷◌, ap, ◌∙◌, arith, length}
 use Rattle.cesu8_encode.proofs.encoder.EncodedWindows.{encoded_bytes_first, room_for_parts}
 use Rattle.cesu8_encode.proofs.blockwise.write_first_block.Goals as goal

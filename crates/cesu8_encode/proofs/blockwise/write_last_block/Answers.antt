@@ -1,3 +1,4 @@
+-- A window with the last bytes of the text and zeros after them gives what the whole text gives.
 use Rattle.std.proofs.Common.{◌≡◌, ◌+◌, ◌-◌, subst, arith, length}
 use Rattle.cesu8_encode.specs.EncodedOffsets.{IsWritten}
 use Rattle.cesu8_encode.proofs.encoder.EncodedWindows.{encoded_bytes_last, room_behind, written_behind}

@@ -1,3 +1,5 @@
+-- After each block its encoding is appended, so one block more is written. It fits, since the whole
+-- encoding does.
 use Rattle.std.proofs.Common.{◌≡◌, ◌+◌, ◌*◌, subst, ◌∙◌, arith}
 use Rattle.cesu8_encode.specs.EncodedOffsets.{IsWritten}
 use Rattle.cesu8_encode.proofs.encoder.EncodedWindows.{encoded_bytes_here, room_behind, written_behind}

@@ -1,3 +1,4 @@
+-- If the string needs no encoding, its bytes are its encoding.
 use Rattle.std.proofs.Common.{sym, ◌∙◌, subst}
 use Rattle.std.proofs.lemmas.Bool.{both_ways, iff_false}
 use Rattle.cesu8_bytes.specs.Puts.{PutsAnswer}

@@ -1,3 +1,5 @@
+-- The loop tests the last five offsets before the place. If no character crosses the place from one
+-- of these, none does at all, since a character has at most six bytes.
 use Rattle.std.proofs.Common.{◌-◌, ◌≤◌, ◌∷◌, [], ℕ, length, drop, arith, inl, inr}
 use Rattle.std.proofs.lemmas.Bool.{cases_lt}
 use Rattle.std.proofs.lemmas.List.{take_rest}

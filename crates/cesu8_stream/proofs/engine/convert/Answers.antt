@@ -1,3 +1,4 @@
+-- The step at the start and the call on the rest are together one call (`continued`).
 use Rattle.std.proofs.lemmas.List.{take_rest}
 use Rattle.cesu8_stream.proofs.First.{Sizes}
 use Rattle.cesu8_stream.proofs.Pieces.{IsConversion, to_end, continued}

@@ -1,3 +1,5 @@
+-- The text with the fewest bytes at the start of the input is the first character. So if it does
+-- not fit the buffer, no character does.
 use Rattle.std.proofs.Common.{◌≡◌, length, inl, inr, arith}
 use Rattle.std.proofs.lemmas.Bool.{cases_lt}
 use Rattle.cesu8_stream.proofs.First.{Sizes, shortest_is_first}

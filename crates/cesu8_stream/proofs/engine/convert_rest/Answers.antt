@@ -1,3 +1,5 @@
+-- Two calls after one another are one call. The loop ends at a step that reads nothing, which
+-- writes nothing.
 use Rattle.std.proofs.Common.{◌≡◌, ◌<◌, ◌-◌, ℕ, [], ◌∷◌, ◌++◌, length, take, drop, length-drop, arith, ap, ◌∙◌, refl}
 use Rattle.std.proofs.lemmas.Grind.{common_steps}
 use Rattle.std.proofs.lemmas.List.{take_rest, take-append-drop}

@@ -1,3 +1,4 @@
+-- One lemma for each clause of the law.
 use Rattle.cesu8_stream.proofs.InPieces.{strict_in_pieces, encoded_in_pieces, lossy_in_pieces}
 use Rattle.cesu8_stream.proofs.laws.in_pieces.Goals as goal
 

@@ -1,3 +1,5 @@
+-- A step is a strict call, and U+FFFD for the byte at which it stopped if that is damage. Steps
+-- after one another are one step (`read_on`).
 use Rattle.std.proofs.Common.{sym, ◌∙◌, refl}
 use Rattle.cesu8_stream.proofs.LossyWindows.{read_whatever}
 use Rattle.cesu8_stream.proofs.LossyReadings.{IsReading, found_by, stopped, filled, replaces}

@@ -1,3 +1,4 @@
+-- The strict call at the start is a step, and the windows after it are another (`read_on`).
 use Rattle.std.proofs.Common.{false}
 use Rattle.std.proofs.lemmas.List.{take_rest}
 use Rattle.cesu8_stream.proofs.Pieces.{to_end}

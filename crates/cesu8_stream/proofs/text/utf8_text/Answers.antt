@@ -1,3 +1,4 @@
+-- std's error says that the bytes are not UTF-8, so they are the UTF-8 of no text.
 use Rattle.simd_cesu8.proofs.StdUtf8.{not_utf8_of}
 use Rattle.cesu8_stream.proofs.text.utf8_text.Goals as goal
 

@@ -1,3 +1,5 @@
+-- std's call returns the longest prefix that is UTF-8, so no character begins after it
+-- (`utf8_stops`).
 use Rattle.std.proofs.Common.{take}
 use Rattle.std.proofs.Math.Seq.{take-length}
 use Rattle.std.specs.Str.{chars}

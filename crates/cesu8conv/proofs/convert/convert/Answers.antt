@@ -1,3 +1,6 @@
+-- Each round converts a piece of the window, moves the unread bytes to its start and reads more
+-- after them. One proof for each way in which the loop ends: at the end of the input, at damage, or
+-- at an error of a read or a write.
 use Rattle.std.proofs.Common.{◌≡◌, ◌+◌, ◌-◌, ◌++◌, ◌<◌, ◌≤◌, ℕ, [], true, false, length, take, drop, refl, sym, ap, ◌∙◌, arith, length-take, length-drop, length-append}
 use Rattle.std.proofs.lemmas.List.{append-nil, length-take-le}
 use Rattle.std.proofs.KnownBytes.{Appends-nil, Appends-trans, Consumes-nil}

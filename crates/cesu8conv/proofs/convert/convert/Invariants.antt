@@ -1,3 +1,5 @@
+-- What was read from the input is what was converted so far, whose output was written, and the
+-- unread bytes in the window.
 use Rattle.std.proofs.Common.{List, ℕ, ◌≡◌, ◌≤◌, ◌++◌, false, length, take}
 use Rattle.std.specs.Io.KnownBytes.{Appends, Consumes}
 use Rattle.cesu8conv.specs.Conversion.{Converts}

@@ -1,3 +1,5 @@
+-- Each step continues after the bytes that were taken (`step-taken`). One proof for each way in
+-- which the loop ends.
 use Rattle.std.proofs.Common.{◌+◌, ◌-◌, ◌++◌, [], length, take, arith}
 use Rattle.std.proofs.KnownBytes.{Appends-nil, Appends-trans}
 use Rattle.cesu8conv.proofs.Joined.{converts-nil}

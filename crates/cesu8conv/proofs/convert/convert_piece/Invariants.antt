@@ -1,3 +1,5 @@
+-- What was taken of the piece so far was converted: one part of the output was written, and the
+-- rest is in the buffer.
 use Rattle.std.proofs.Common.{List, ℕ, ◌≤◌, ◌++◌, length, take, drop}
 use Rattle.std.specs.Io.KnownBytes.{Appends}
 use Rattle.cesu8conv.specs.Conversion.{Converts}

@@ -1,3 +1,4 @@
+-- After each write, the bytes that were written and the rest are together all bytes.
 use Rattle.std.proofs.Common.{◌++◌, take}
 use Rattle.std.proofs.KnownBytes.{Appends-trans}
 use Rattle.cesu8conv.proofs.Streams.{whole-after}

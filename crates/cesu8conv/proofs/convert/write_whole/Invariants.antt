@@ -1,3 +1,4 @@
+-- The bytes that were written and the rest are together all bytes.
 use Rattle.std.proofs.Common.{List, ℕ, ◌≡◌, ◌++◌}
 use Rattle.std.specs.Io.KnownBytes.{Appends}
 use Rattle.cesu8conv.proofs.convert.write_whole.Given as goal

@@ -1,3 +1,4 @@
+-- A call of `cesu8_stream` is a step of the conversion.
 use Rattle.std.proofs.Common.{refl}
 use Rattle.simd_cesu8.specs.Text.{utf8}
 use Rattle.simd_cesu8.specs.Encoding.{encoding}

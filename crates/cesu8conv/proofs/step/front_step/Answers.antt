@@ -1,3 +1,4 @@
+-- A call on a prefix of the bytes is a step of the mixed conversion.
 use Rattle.cesu8conv.proofs.Steps.{front-step}
 use Rattle.cesu8conv.proofs.step.front_step.Goals as goal
 

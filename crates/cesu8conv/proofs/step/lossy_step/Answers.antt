@@ -1,3 +1,5 @@
+-- A strict step is a lossy one, and if it stopped at the first byte, U+FFFD is the lossy conversion
+-- of that byte.
 use Rattle.cesu8conv.proofs.Steps.{replaced-step, lossy-of-decoded, lossy-replaces}
 use Rattle.cesu8conv.specs.declared.conversion.Conversion.TheVariants.{Decode, Lossy}
 use Rattle.cesu8conv.proofs.step.lossy_step.Goals as goal

@@ -1,3 +1,5 @@
+-- A mixed step is a mixed lossy one, and if it stopped at the first byte, U+FFFD replaces that
+-- byte.
 use Rattle.cesu8conv.proofs.Steps.{replaced-step, mixed-lossy-of-mixed, mixed-replaces}
 use Rattle.cesu8conv.specs.declared.conversion.Conversion.TheVariants.{Mixed, MixedLossy}
 use Rattle.cesu8conv.proofs.step.mixed_lossy_step.Goals as goal

@@ -1,3 +1,4 @@
+-- UTF-8 that is passed through is a step of the mixed conversion, and so is a call that decodes.
 use Rattle.std.proofs.Common.{◌≡◌, ◌≤◌, ◌++◌, ◌∙◌, length, take, drop, ap, arith, length-append}
 use Rattle.std.proofs.lemmas.List.{take_at, length-take-le}
 use Rattle.cesu8conv.proofs.Steps.{mixed-step-of-decoded, passed-step}

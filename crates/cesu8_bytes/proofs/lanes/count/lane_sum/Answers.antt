@@ -1,3 +1,4 @@
+-- The sum of the dot products with ones is the sum of the lanes. No partial sum overflows 32 bits.
 use Rattle.std.proofs.Common.{arith}
 use Rattle.std.proofs.lemmas.Simd.{dot4_Fits}
 use Rattle.cesu8_bytes.proofs.vectors.Counts.{dots_sum_fits, dots_sum}

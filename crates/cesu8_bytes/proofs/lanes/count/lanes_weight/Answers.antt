@@ -1,3 +1,5 @@
+-- The bits of two masks after the skipped lanes are counted. The sum of the weights is the count of
+-- the class plus twice that of four-byte leads.
 use Rattle.std.proofs.Common.{◌≤◌, length, drop, arith}
 use Rattle.cesu8_text.specs.Class.{is_four}
 use Rattle.cesu8_bytes.proofs.vectors.Counts.{bits_behind, weight_by_counts}

@@ -1,3 +1,4 @@
+-- The groups of four chunks and the remaining chunks are all chunks.
 use Rattle.cesu8_bytes.specs.Kernels.{AnyIn}
 use Rattle.cesu8_bytes.proofs.lists.Chunks.{found_in_chunks, left_by_chunks}
 use Rattle.cesu8_bytes.proofs.lanes.search.any_in_chunks.Goals as goal

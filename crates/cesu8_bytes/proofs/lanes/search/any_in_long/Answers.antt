@@ -1,3 +1,4 @@
+-- The whole vectors and the last 64 bytes cover all bytes.
 use Rattle.std.proofs.Common.{ℕ, subst, ◌↔◌, IsTrue, ◌-◌, ◌*◌, ◌/◌, length, arith}
 use Rattle.std.specs.List.{Any}
 use Rattle.cesu8_bytes.proofs.lists.Chunks.{found_in_chunks, left_by_chunks}

@@ -1,3 +1,5 @@
+-- Each width reports a byte that it found, or leaves a rest that decides. The last rest is empty,
+-- or a single byte that `fallback` tests.
 use Rattle.std.proofs.Common.{◌≡◌, not, length, refl, sym, ap, ◌∙◌, arith, eqb-true, IsTrue}
 use Rattle.std.proofs.lemmas.Bool.{eqb-false}
 use mathlib.Core.Logic.Iff.{trans}

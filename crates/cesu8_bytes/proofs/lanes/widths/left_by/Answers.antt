@@ -1,3 +1,4 @@
+-- The whole chunks and the rest are all bytes.
 use Rattle.std.proofs.Common.{IsTrue, arith}
 use Rattle.cesu8_bytes.proofs.lists.Chunks.{found_in_chunks, left_by_chunks}
 use Rattle.cesu8_bytes.proofs.lanes.widths.left_by.Goals as goal

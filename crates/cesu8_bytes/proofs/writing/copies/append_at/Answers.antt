@@ -1,3 +1,4 @@
+-- Truncating to an index and appending the bytes from there on again appends them once.
 use Rattle.cesu8_bytes.proofs.lists.Stored.{appended_again}
 use Rattle.cesu8_bytes.proofs.writing.copies.append_at.Goals as goal
 

@@ -1,3 +1,4 @@
+-- Four rows of eight bytes are the 32 bytes, so what the four stores keep is what is kept of them.
 use Rattle.std.proofs.Common.{ℕ, ◌+◌, ◌≤◌, ◌++◌, ap, ◌∙◌, subst, arith}
 use lib.Lanes.{chunk, pick_l}
 use Rattle.std.specs.List.{range_with_len}

@@ -1,3 +1,5 @@
+-- `window_of_lanes` returns the window of any bytes that equal the lanes up to `count + 5`. The 64
+-- loaded bytes do (`loaded_alike`): there are five more than `count`, or zeros follow them.
 use Rattle.std.proofs.Common.{arith}
 use Rattle.cesu8_decode.proofs.decoder.WindowMasks.{loaded_alike}
 use Rattle.cesu8_decode.proofs.lanes.windows.window_at.Goals as goal

@@ -1,3 +1,4 @@
+-- ASCII in which no byte changes is UTF-8 in which none changes, which this mode returns unchanged.
 use Rattle.std.proofs.lemmas.Str.{IsUtf8-from_ascii}
 use Rattle.cesu8_decode.proofs.modes.EncodingAloneAccepts.is_short_kept.Goals as goal
 

@@ -1,4 +1,4 @@
-use Rattle.std.proofs.Common.{◌+◌, ◌-◌, ◌≤◌, refl, sym, subst, arith, length, take, drop}
+use Rattle.std.proofs.Common.{◌+◌, ◌-◌, refl, sym, subst, arith, length, take, drop}
 use Rattle.std.proofs.lemmas.List.{length-take, length-take-le, take_rest}
 use Rattle.cesu8_decode.specs.Decoding.{GoesOn}
 use Rattle.cesu8_decode.proofs.decoder.Passes.{pass_at, front_goes_on}

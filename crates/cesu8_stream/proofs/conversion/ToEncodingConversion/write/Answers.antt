@@ -1,3 +1,4 @@
+-- If the bytes are UTF-8, their characters are the only text that they can be.
 use Rattle.std.proofs.Common.{◌≡◌, length, inl, inr}
 use Rattle.std.proofs.lemmas.Bool.{cases_lt}
 use Rattle.std.specs.Str.{chars}

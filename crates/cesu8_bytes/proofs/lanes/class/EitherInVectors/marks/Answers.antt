@@ -1,3 +1,4 @@
+-- A lane is marked for `Either<A, B>` if it is marked for A or for B.
 use Rattle.cesu8_bytes.proofs.lists.Classes.{either_marks}
 use Rattle.cesu8_bytes.proofs.lanes.class.EitherInVectors.marks.Goals as goal
 

@@ -1,3 +1,4 @@
+-- If a lane of one of the four vectors is at least the number, so is that lane of their maximum.
 use Rattle.cesu8_bytes.proofs.lists.Lanes.{least_in_greatest}
 use Rattle.cesu8_bytes.proofs.lanes.groups.AtLeastInGroups.may_have.Goals as goal
 
