@@ -35,7 +35,7 @@ pub(crate) fn lenient<const WITH_NULL: bool>(bytes: &[u8]) -> Option<Result<&str
     let text = |bytes| Some(Ok(unsafe { core::str::from_utf8_unchecked(bytes) }));
     if bytes.len() < 8 {
         let word = word_of_few(bytes);
-        let has = |byte: u64| any_zero(word ^ (HIGH >> 7) * byte);
+        let has = |byte: u64| any_zero(word ^ ((HIGH >> 7) * byte));
         if word & HIGH == 0 {
             return text(bytes);
         }

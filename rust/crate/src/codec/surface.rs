@@ -104,17 +104,32 @@ impl Accepts for Tested {
     }
 }
 
-/// Returns `None` if all bytes are the same in UTF-8, or how many at the start are.
+/// Returns `None` if all bytes are the same in UTF-8, or how many at the start are. With `LENIENT` it
+/// also returns `None` for more than 64 bytes of UTF-8 without characters of four bytes.
 #[cfg_attr(not(debug_assertions), inline(always))]
-fn front_unless_unchanged<F: Flavor, A: Accepts>(bytes: &[u8]) -> Option<FoundFront> {
+fn front_unless_unchanged<F: Flavor, A: Accepts, const LENIENT: bool>(
+    bytes: &[u8],
+) -> Option<FoundFront> {
     if bytes.len() <= FEW {
         return front_unless_kept::<F, Tested>(bytes);
     }
     if A::is_short_kept::<F>(bytes) {
         return None;
     }
-    // Inlined, unlike for fewer bytes, since it is little but a call.
-    let len = front_of_many::<F, Unchanged>(bytes);
+    // UTF-8 may have a byte 00, which CESU-8 leaves unchanged, and so its test is the shorter one. These
+    // are inlined, unlike those of fewer bytes, since they are little but a call.
+    let mut len = if LENIENT {
+        front_of_many::<Cesu8Flavor, Unchanged>(bytes)
+    } else {
+        front_of_many::<F, Unchanged>(bytes)
+    };
+    if LENIENT
+        && F::has_long_null()
+        && len < bytes.len()
+        && contains_changed::<F>(bytes.part(..len))
+    {
+        len = front_of_many::<F, Unchanged>(bytes);
+    }
     if len == bytes.len() { None } else { Some(FoundFront { len, changed: 0 }) }
 }
 
@@ -131,7 +146,7 @@ fn is_utf8_after(front: FoundFront, bytes: &[u8]) -> bool {
 fn strict<F: Flavor, A: Accepts, const LENIENT: bool>(
     bytes: &[u8],
 ) -> Result<Cow<'_, str>, DecodingError> {
-    match front_unless_unchanged::<F, A>(bytes) {
+    match front_unless_unchanged::<F, A, LENIENT>(bytes) {
         None => Ok(Cow::Borrowed(known_text(bytes))),
         Some(front) => strict_other::<F>(bytes, front, LENIENT),
     }
@@ -205,7 +220,7 @@ fn strict_many<F: Flavor>(bytes: &[u8], front: FoundFront) -> Result<Cow<'_, str
 /// Decodes, and replaces what is ill-formed.
 #[cfg_attr(not(debug_assertions), inline(always))]
 fn lossy<F: Flavor, A: Accepts, const LENIENT: bool>(bytes: &[u8]) -> Cow<'_, str> {
-    let Some(front) = front_unless_unchanged::<F, A>(bytes) else {
+    let Some(front) = front_unless_unchanged::<F, A, LENIENT>(bytes) else {
         return Cow::Borrowed(known_text(bytes));
     };
     if LENIENT && is_utf8_after(front, bytes) {
