@@ -42,9 +42,7 @@ first_byte f bytes prefix found encoded =
 -- A character of two bytes that begins with C0 is U+0000.
 null_utf8 : (f : Flavor) (bytes : List ℕ) (found : IsWide f bytes) → Shape found.character → first_width f bytes ≡ 2 →
     get_or bytes 0 0 ≡ 0xC0 → 0 ∷ [] ≡ utf8_of found.character
-null_utf8 f bytes found (one ascii) width_is lead =
-    ⊎_elim (λ same. absurd (omega (arith, width_is, found.wide, ap length same)))
-    (λ null. sym (utf8_of_one found.character ascii ∙ ap (λ c. c ∷ []) null.0)) (ascii_forms f found.character ascii)
+null_utf8 f bytes found (one ascii) width_is lead = grind (arith, nat_tests, utf8_of_one, ascii_forms)
 null_utf8 f bytes found (two x y digits) width_is lead =
     absurd (omega (arith, lead, digits.low, first_byte f bytes _ found (encoding_two f found.character x y digits)))
 null_utf8 f bytes found (three x y z digits) width_is lead =

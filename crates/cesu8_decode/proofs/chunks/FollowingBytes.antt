@@ -153,13 +153,7 @@ module _ (s : CharacterSet) (f : Flavor) (n : ℕ) (later : AreWholeFrom s f n) 
   in_character : (b d e g : ℕ) (bytes : List ℕ) → length bytes ≤ n → is_high_surrogate s b d ≡ false → d < 0xE0 → e < 0xC0 → 0xC0 ≤ g →
       FollowToEnd s f b d e g bytes → AreWhole s f (g ∷ bytes)
   in_character b d e g [] few no_high before last lead all = absurd (omega (arith, all.last))
-  in_character b d e g (h ∷ bytes) few no_high before last lead all =
-      ⊎_elim (λ (found : Begins f g h). absurd (omega (arith, found.behind)))
-      (λ (found : IsSecond s f g h).
-      ⊎_elim (λ (low : g < 0xE0). in_two d e g h bytes (omega arith) before last low found all.1)
-      (λ (high : 0xE0 ≤ g). in_three d e g h bytes (omega arith) before last high found.fits found all.1)
-      (cases_lt g 0xE0))
-      (if_nothing s f g h (grind (arith, nat_tests)))
+  in_character b d e g (h ∷ bytes) few no_high before last lead all = grind (arith, nat_tests, in_two, in_three, if_nothing)
 
 -- Bytes from one boundary to another that can follow each other are whole characters.
 are_whole : (s : CharacterSet) (f : Flavor) (n : ℕ) → AreWholeFrom s f n
