@@ -2,6 +2,7 @@
 //! CONSTANT_Utf8_info Structure"), Java's `DataOutput` and `String`, and Unicode Technical Report
 //! 26.
 
+use cesu8_stream::State;
 use java_text::{ReadFault, WriteFault};
 use std::alloc::{AllocError, Global};
 use std::cmp::Ordering;
@@ -109,30 +110,32 @@ fn appends_all_texts(rt: HostRuntime) -> Result<(), Fail> {
     Ok(())
 }
 
-/// Asserts that CESU-8 is read which comes in two pieces, cut at a place.
+/// Asserts that CESU-8 is read which comes in two pieces, cut at a place, and that the bytes before
+/// the cut wait only if it is in a character.
 fn assert_pieces(
     rt: &impl Abort,
     alloc: Global,
-    bytes: &[u8],
+    input: &[u8],
     place: usize,
     want: &str,
 ) -> Result<(), AllocError> {
-    let mut text = String::new(alloc);
-    let mut kept = Vec::new(alloc);
-    append_piece(
-        alloc,
-        &bytes[..place.min(bytes.len())],
-        &mut kept,
-        &mut text,
-    )?;
-    append_piece(
-        alloc,
-        &bytes[place.min(bytes.len())..],
-        &mut kept,
-        &mut text,
-    )?;
-    assert_eq!(rt; text.as_str(), want, "at {place}");
-    assert!(rt; kept.is_empty(), "at {place}");
+    let place = place.min(input.len());
+    let mut text = Vec::new(alloc);
+    let mut bytes = Vec::from_slice(alloc, &input[..place])?;
+    let first = append_piece(&mut bytes, &mut text)?;
+    assert_eq!(rt; bytes.is_empty(), first == State::InputEmpty, "at {place}");
+    assert!(rt;
+        bytes.is_empty() || first == State::Incomplete,
+        "at {place}"
+    );
+    bytes.extend_from_slice(&input[place..])?;
+    assert_eq!(rt;
+        append_piece(&mut bytes, &mut text)?,
+        State::InputEmpty,
+        "at {place}"
+    );
+    assert_eq!(rt; text.as_slice(), want.as_bytes(), "at {place}");
+    assert!(rt; bytes.is_empty(), "at {place}");
     Ok(())
 }
 
@@ -146,15 +149,16 @@ fn reads_pieces(rt: HostRuntime) -> Result<(), Fail> {
     Ok(())
 }
 
-/// Damage is kept, and what is behind it.
+/// Damage stays, and what comes after it.
 #[test]
 fn keeps_damaged_pieces(rt: HostRuntime) -> Result<(), Fail> {
-    let mut text = String::new(rt.alloc());
-    let mut kept = Vec::new(rt.alloc());
-    append_piece(rt.alloc(), b"id=\xFF", &mut kept, &mut text)?;
-    append_piece(rt.alloc(), b"1", &mut kept, &mut text)?;
-    assert_eq!(rt; text.as_str(), "id=");
-    assert_eq!(rt; kept.as_slice(), b"\xFF1".as_slice());
+    let mut text = Vec::new(rt.alloc());
+    let mut bytes = Vec::from_slice(rt.alloc(), b"id=\xFF")?;
+    assert_eq!(rt; append_piece(&mut bytes, &mut text)?, State::Malformed);
+    bytes.push(b'1')?;
+    assert_eq!(rt; append_piece(&mut bytes, &mut text)?, State::Malformed);
+    assert_eq!(rt; text.as_slice(), b"id=".as_slice());
+    assert_eq!(rt; bytes.as_slice(), b"\xFF1".as_slice());
     Ok(())
 }
 

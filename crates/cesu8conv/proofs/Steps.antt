@@ -21,7 +21,7 @@ use Rattle.cesu8conv.specs.Steps.{IsStep, next_after, IsAfter, Replaces}
 use Rattle.cesu8conv.proofs.Joined.{converts-nil}
 use Rattle.cesu8conv.specs.declared.conversion.FlavorWord.{FlavorWord}
 use Rattle.cesu8conv.specs.declared.conversion.Conversion.{Conversion}
-use Rattle.cesu8conv.specs.declared.conversion.Conversion.TheVariants.{Encode, Decode, Lossy, Mixed, MixedLossy}
+use Rattle.cesu8conv.specs.declared.conversion.Conversion.TheVariants.{Decode, Lossy, Mixed, MixedLossy}
 use Rattle.cesu8conv.specs.declared.step.Step.{Step}
 use Rattle.cesu8conv.specs.declared.step.Next.{Next}
 use Rattle.cesu8conv.specs.declared.step.Next.TheVariants as next

@@ -110,28 +110,59 @@ pub converts-more : (c : Conversion) (is_last : Bool) (taken unread got piece ou
     Converts c false taken unread output → Converts c is_last taken piece output
 converts-more c is_last taken unread got piece output is h = rw is (converts-read c is_last taken unread got output h)
 
+-- A window, of which a part at the end was read, begins with what was unread and what was read.
+pub window-read : (window tail post : List ℕ) (unread count : ℕ) → unread ≤ length window → count ≤ length tail →
+    take (unread + count) (take unread window ++ (tail ++ post)) ≡ take unread window ++ take count tail
+window-read window tail post unread count fits within =
+    filled-up window (take unread window ++ (tail ++ post)) (tail ++ post) unread count fits refl
+    ∙ ap (λ y. take unread window ++ y) (take-append-le count tail post within)
+
+-- After a read, the piece in the window is what was unread and what was read. All that the reader gave
+-- is what was taken and the piece.
+pub record IsRead (c : Conversion) (is_last : Bool) (r0 r1 : Option (List ℕ)) (taken piece output : List ℕ) : Type 0 where
+  pub ends : is_last ≡ true → IsAtEnd r1
+  pub consumed : Consumes r0 r1 (taken ++ piece)
+  pub converts : Converts c is_last taken piece output
+
+pub read-more : (c : Conversion) (is_last : Bool) (r0 r1 r2 : Option (List ℕ)) (taken output window tail post : List ℕ) (unread count : ℕ) →
+    unread ≤ length window → count ≤ length tail → Consumes r0 r1 (taken ++ take unread window) →
+    Converts c false taken (take unread window) output → Consumes r1 r2 (take count tail) → (is_last ≡ true → IsAtEnd r2) →
+    IsRead c is_last r0 r2 taken (take (unread + count) (take unread window ++ (tail ++ post))) output
+read-more c is_last r0 r1 r2 taken output window tail post unread count fits within consumed converts got ends =
+    let old = take unread window in
+    let new = take count tail in
+    let piece = take (unread + count) (old ++ (tail ++ post)) in
+    let is = window-read window tail post unread count fits within in
+    record {
+      ends = ends;
+      consumed = consumes-more r0 r1 r2 taken old new piece is consumed got;
+      converts = converts-more c is_last taken old new piece output is converts;
+    }
+
 -- A write that fails leaves a beginning of the output.
 pub breaks-stream : Concat → (c : Conversion) (is_last : Bool) (r0 r1 w0 w1 w2 : Option (List ℕ)) (taken piece output : List ℕ) →
-    (is_last ≡ true → IsAtEnd r1) → Consumes r0 r1 (taken ++ piece) → Converts c is_last taken piece output →
-    Appends w0 w1 output → BreaksPiece c piece is_last w1 w2 → IfSome r0 (λ bytes. WritesSome c bytes w0 w2)
-breaks-stream concat c is_last r0 r1 w0 w1 w2 taken piece output ends consumed before appended b =
-    writes-some c is_last r0 r1 w0 w2 (taken ++ take b.read piece) (drop b.read piece) (output ++ b.output) b.rest ends
-    (consumes-split r0 r1 taken piece b.read consumed)
-    (rw (append_assoc output b.output b.rest) (piece-joined concat c is_last taken piece output (b.output ++ b.rest) b.read before b.converts))
+    IsRead c is_last r0 r1 taken piece output → Appends w0 w1 output → BreaksPiece c piece is_last w1 w2 →
+    IfSome r0 (λ bytes. WritesSome c bytes w0 w2)
+breaks-stream concat c is_last r0 r1 w0 w1 w2 taken piece output h appended b =
+    writes-some c is_last r0 r1 w0 w2 (taken ++ take b.read piece) (drop b.read piece) (output ++ b.output) b.rest h.ends
+    (consumes-split r0 r1 taken piece b.read h.consumed)
+    (rw (append_assoc output b.output b.rest) (piece-joined concat c is_last taken piece output (b.output ++ b.rest) b.read h.converts b.converts))
     (Appends-trans w0 w1 w2 output b.output appended b.appended)
 
 -- At the end of the input, its output was written.
-pub ends-stream : Concat → (c : Conversion) (r0 r1 w0 w1 w2 : Option (List ℕ)) (taken piece output : List ℕ) (read : ℕ) →
-    IsAtEnd r1 → Consumes r0 r1 (taken ++ piece) → Converts c true taken piece output →
-    Appends w0 w1 output → TakesPiece c piece true read w1 w2 → read ≡ length piece → WritesOutput c r0 w0 w2
-ends-stream concat c None r1 w0 w1 w2 taken piece output read ends consumed before appended t all = tt
-ends-stream concat c (Some bytes) None w0 w1 w2 taken piece output read ends consumed before appended t all = absurd consumed
-ends-stream concat c (Some bytes) (Some more) w0 w1 w2 taken piece output read ends consumed before appended t all =
+pub ends-stream : Concat → (c : Conversion) (is_last : Bool) (r0 r1 w0 w1 w2 : Option (List ℕ)) (taken piece output : List ℕ)
+    (read : ℕ) → is_last ≡ true → IsRead c is_last r0 r1 taken piece output → Appends w0 w1 output →
+    TakesPiece c piece is_last read w1 w2 → read ≡ length piece → WritesOutput c r0 w0 w2
+ends-stream concat c false r0 r1 w0 w1 w2 taken piece output read last h appended t all = absurd (let e = last in cc)
+ends-stream concat c true None r1 w0 w1 w2 taken piece output read last h appended t all = tt
+ends-stream concat c true (Some bytes) None w0 w1 w2 taken piece output read last h appended t all = absurd h.consumed
+ends-stream concat c true (Some bytes) (Some more) w0 w1 w2 taken piece output read last h appended t all =
     let long : length piece ≤ read = omega arith in
     let front : take read piece ≡ piece = take_all read piece long in
     let none : drop read piece ≡ [] = drop_all read piece long in
-    let is : bytes ≡ taken ++ piece = consumed ∙ ap (λ y. (taken ++ piece) ++ y) ends ∙ append-nil (taken ++ piece) in
-    let joined = rw (front, none) at (piece-joined concat c true taken piece output t.output read before t.converts) in (
+    let is : bytes ≡ taken ++ piece =
+    h.consumed ∙ ap (λ y. (taken ++ piece) ++ y) (h.ends refl) ∙ append-nil (taken ++ piece) in
+    let joined = rw (front, none) at (piece-joined concat c true taken piece output t.output read h.converts t.converts) in (
       output ++ t.output,
       rw is (output-of-all c true (taken ++ piece) (output ++ t.output) joined),
       Appends-trans w0 w1 w2 output t.output appended t.appended,
@@ -139,30 +170,29 @@ ends-stream concat c (Some bytes) (Some more) w0 w1 w2 taken piece output read e
 
 -- At damage, the output for the input up to it was written.
 pub stops-stream : Concat → (c : Conversion) (is_last : Bool) (r0 r1 w0 w1 w2 : Option (List ℕ)) (taken piece output : List ℕ)
-    (offset read : ℕ) → length taken ≡ offset → (is_last ≡ true → IsAtEnd r1) → Consumes r0 r1 (taken ++ piece) →
-    Converts c is_last taken piece output → Appends w0 w1 output →
+    (offset read : ℕ) → length taken ≡ offset → IsRead c is_last r0 r1 taken piece output → Appends w0 w1 output →
     TakesPiece c piece is_last read w1 w2 × IsDamagedAhead c is_last (drop read piece) →
     IfSome r0 (λ bytes. StopsAt c (offset + read) bytes w0 w2)
-stops-stream concat c is_last None r1 w0 w1 w2 taken piece output offset read counted ends consumed before appended t = tt
-stops-stream concat c is_last (Some bytes) None w0 w1 w2 taken piece output offset read counted ends consumed before appended t = absurd consumed
-stops-stream concat c is_last (Some bytes) (Some more) w0 w1 w2 taken piece output offset read counted ends consumed before appended t =
+stops-stream concat c is_last None r1 w0 w1 w2 taken piece output offset read counted h appended t = tt
+stops-stream concat c is_last (Some bytes) None w0 w1 w2 taken piece output offset read counted h appended t = absurd h.consumed
+stops-stream concat c is_last (Some bytes) (Some more) w0 w1 w2 taken piece output offset read counted h appended t =
     let front = taken ++ take read piece in
     let rest = drop read piece ++ more in
     let part : length (take read piece) ≡ read = length-take-le read piece t.0.within in
     let len : length front ≡ offset + read = length-append taken (take read piece) ∙ ap (λ n. n + length (take read piece)) counted
     ∙ ap (λ n. offset + n) part in
     let split : Consumes (Some bytes) (Some more) (front ++ drop read piece) =
-    consumes-split (Some bytes) (Some more) taken piece read consumed in
+    consumes-split (Some bytes) (Some more) taken piece read h.consumed in
     let is : bytes ≡ front ++ rest = split ∙ append_assoc front (drop read piece) more in
     let all : length bytes ≡ length front + length rest = ap length is ∙ length-append front rest in
-    let joined = piece-joined concat c is_last taken piece output t.0.output read before t.0.converts in
+    let joined = piece-joined concat c is_last taken piece output t.0.output read h.converts t.0.converts in
     record {
       within = omega arith;
       output = output ++ t.0.output;
       is_output = rw (is, take_at front rest (offset + read) len)
           (output-to-damage c is_last front (drop read piece) (output ++ t.0.output) joined t.1);
       appended = Appends-trans w0 w1 w2 output t.0.output appended t.0.appended;
-      damage = rw (is, drop_at front rest (offset + read) len) (t.1 more (may-follow is_last more ends));
+      damage = rw (is, drop_at front rest (offset + read) len) (t.1 more (may-follow is_last more h.ends));
     }
 
 -- The unread bytes of a window, moved to its front.
@@ -176,14 +206,3 @@ moved-front window read end within fits =
     let none : 0 ≤ length window = omega arith in
     ap (λ m. take m (copy_within window read end 0)) (sym zero) ∙ take-paste window 0 (drop read window) n none some
     ∙ sym (drop-take read n window) ∙ ap (λ m. drop read (take m window)) sum
-
--- A window, of which a part at the end was read, begins with what was unread and what was read.
-pub window-read : (window tail post : List ℕ) (unread count : ℕ) → unread ≤ length window → count ≤ length tail →
-    take (unread + count) (take unread window ++ (tail ++ post)) ≡ take unread window ++ take count tail
-window-read window tail post unread count fits within =
-    filled-up window (take unread window ++ (tail ++ post)) (tail ++ post) unread count fits refl
-    ∙ ap (λ y. take unread window ++ y) (take-append-le count tail post within)
-
-pub window-kept : (window back : List ℕ) (unread : ℕ) → unread ≤ length window →
-    take unread (take unread window ++ back) ≡ take unread window
-window-kept window back unread fits = take_at (take unread window) back unread (length-take-le unread window fits)

@@ -56,19 +56,13 @@ pub fn convert<R: Read, W: Write, V: Watch>(
             Ok(count) => count,
             Err(error) => return Err(Fault::Read(error)),
         };
-        if count == 0 {
-            return match convert_piece(conversion, &window[..unread], true, room, output, watch) {
-                Ok(_) => Ok(()),
-                Err(PieceFault::Damage(read)) => {
-                    window.copy_within(read..unread, 0);
-                    Err(Fault::Damage(offset + read as u64, unread - read))
-                }
-                Err(PieceFault::Write(error)) => Err(Fault::Write(error)),
-            };
-        }
         let end = unread + count;
-        match convert_piece(conversion, &window[..end], false, room, output, watch) {
+        let is_last = count == 0;
+        match convert_piece(conversion, &window[..end], is_last, room, output, watch) {
             Ok(read) => {
+                if is_last {
+                    return Ok(());
+                }
                 offset += read as u64;
                 window.copy_within(read..end, 0);
                 unread = end - read;

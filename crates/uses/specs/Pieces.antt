@@ -1,8 +1,21 @@
 -- CESU-8 that comes in pieces.
-use Rattle.std.specs.Prelude.{ℕ, List, ◌++◌}
-use Rattle.std.specs.Str.{chars}
+use Rattle.std.specs.Prelude.{◌≡◌, ℕ, List, [], ◌++◌}
+use Rattle.simd_cesu8.specs.Text.{IsText, utf8}
 use Rattle.simd_cesu8.specs.Encoding.{Cesu8, encoding}
+use Rattle.cesu8_stream.specs.Written.{IsPartial, NeverBegins}
+use Rattle.cesu8_stream.specs.declared.progress.State.{State}
+use Rattle.cesu8_stream.specs.declared.progress.State.TheVariants.{InputEmpty, Incomplete, OutputFull, Malformed}
 
--- All bytes that came: the encoding of the text so far, and then those that are kept.
-abbrev pub received : List ℕ → List ℕ → List ℕ
-received text kept = encoding Cesu8 (chars text) ++ kept
+-- The bytes were the encoding of a text, and then those that stay. The UTF-8 of this text was appended
+-- to what was read before.
+abbrev pub Moves : (bytes rest before after : List ℕ) → Type 0
+Moves bytes rest before after =
+    (text : List ℕ) × IsText text × (bytes ≡ encoding Cesu8 text ++ rest) × (after ≡ before ++ utf8 text)
+
+-- What a state says of the bytes that stay: there are none, or they are a part of a character, or no
+-- character begins them, whatever follows. It never says that a character does not fit.
+abbrev pub Says : State → List ℕ → Type 0
+Says InputEmpty rest = rest ≡ []
+Says Incomplete rest = IsPartial (encoding Cesu8) rest
+Says OutputFull rest = ⊥
+Says Malformed rest = NeverBegins (encoding Cesu8) rest

@@ -1,53 +1,46 @@
 //! CESU-8 that comes in pieces, as reads of a file or a socket return them.
 
-ghost use Rattle.std.specs.Prelude.{◌≡◌, ◌<◌, ◌++◌, OnOk, OnErr, vec_len};
-ghost use Rattle.std.specs.String.{string_bytes};
-ghost use Rattle.simd_cesu8.specs.Encoding.{Cesu8};
-ghost use Rattle.simd_cesu8.specs.Reading.{NoneBegins};
-ghost use Rattle.uses.specs.Pieces.{received};
+ghost use Rattle.std.specs.Prelude.{◌≡◌, OnOk, OnErr, IfOk};
+ghost use Rattle.uses.specs.Pieces.{Moves, Says};
 
-use simd_cesu8::{DecodeFault, laws};
-use std::alloc::{AllocError, Global};
+use cesu8_stream::State;
+use simd_cesu8::laws;
+use std::alloc::AllocError;
 
-/// Appends the text of the kept bytes followed by a piece, up to the last whole character, and
-/// keeps the rest for the next piece. After an error the text and the kept bytes are unchanged.
+/// Decodes the whole characters at the start of the bytes, and moves their text to the end of
+/// `text`, in UTF-8. What is left in `bytes` is a part of a character, or begins with damage, as the
+/// state says: the caller appends the next piece to it, or stops.
 ///
-/// The rest is the beginning of a character, of at most five bytes, or begins with damage.
+/// It allocates only to make `text` longer. If that fails, both are unchanged.
 ///
 /// ```rust
-/// let mut text = String::new(alloc);
-/// let mut kept = Vec::new(alloc);
-/// uses::append_piece(alloc, b"a\xED\xA0\xBD\xED", &mut kept, &mut text)?;
-/// assert_eq!(rt; text.as_str(), "a");
-/// uses::append_piece(alloc, b"\xB2\x96b", &mut kept, &mut text)?;
-/// assert_eq!(rt; text.as_str(), "a\u{1F496}b");
-/// assert!(rt; kept.is_empty());
+/// use cesu8_stream::State;
+///
+/// let mut text = Vec::new(alloc);
+/// let mut bytes = Vec::from_slice(alloc, b"a\xED\xA0\xBD\xED")?;
+/// assert_eq!(rt; uses::append_piece(&mut bytes, &mut text)?, State::Incomplete);
+/// assert_eq!(rt; text.as_slice(), b"a".as_slice());
+/// bytes.extend_from_slice(b"\xB2\x96b")?;
+/// assert_eq!(rt; uses::append_piece(&mut bytes, &mut text)?, State::InputEmpty);
+/// assert_eq!(rt; text.as_slice(), "a\u{1F496}b".as_bytes());
 /// ```
-pub fn append_piece(
-    alloc: Global,
-    piece: &[u8],
-    kept: &mut Vec<u8>,
-    text: &mut String,
-) -> Result<(), AllocError>
+pub fn append_piece(bytes: &mut Vec<u8>, text: &mut Vec<u8>) -> Result<State, AllocError>
     // No byte is lost, and none is read twice.
-    ensures received { OnOk result (received (string_bytes text.new) kept.new.items
-        ≡ received (string_bytes text.old) kept.old.items ++ piece.now) }
-    ensures rest { OnOk result (0 < vec_len kept.new → NoneBegins Cesu8 kept.new.items) }
-    ensures err_text { OnErr result (string_bytes text.new ≡ string_bytes text.old) }
-    ensures err_kept { OnErr result (kept.new.items ≡ kept.old.items) }
+    ensures moves { OnOk result (Moves bytes.old.items bytes.new.items
+        text.old.items text.new.items) }
+    ensures state { IfOk result (λ state. Says state bytes.new.items) }
+    ensures err_text { OnErr result (text.new.items ≡ text.old.items) }
+    ensures err_bytes { OnErr result (bytes.new.items ≡ bytes.old.items) }
 {
-    laws::chars();
+    laws::bounds();
     laws::concat();
-    let mut bytes = Vec::from_slice(alloc, kept)?;
-    bytes.extend_from_slice(piece)?;
-    let whole = simd_cesu8::valid_up_to(&bytes);
-    let rest = Vec::from_slice(alloc, &bytes[whole..])?;
-    match simd_cesu8::decode_strict(alloc, &bytes[..whole]) {
-        Ok(decoded) => text.push_str(decoded.as_str())?,
-        Err(DecodeFault::Memory(error)) => return Err(error),
-        // `valid_up_to` returns only what has a strict reading.
-        Err(DecodeFault::Invalid(_)) => unreachable!(),
-    }
-    *kept = rest;
-    Ok(())
+    let start = text.len();
+    // The text of an encoding is at most as long as the encoding, so all of it fits.
+    text.resize(start + bytes.len(), 0)?;
+    let progress = cesu8_stream::decode_strict(bytes, &mut text[start..]);
+    text.truncate(start + progress.written);
+    let rest = bytes.len() - progress.read;
+    bytes.copy_within(progress.read.., 0);
+    bytes.truncate(rest);
+    Ok(progress.state)
 }

@@ -1,18 +1,36 @@
-use Rattle.std.proofs.Common.{◌∙◌, ◌++◌, ap, take, drop}
-use Rattle.std.proofs.lemmas.List.{take_rest}
-use Rattle.std.proofs.lemmas.Str.{IsUtf8-string_bytes}
-use Rattle.std.specs.Str.{chars}
-use Rattle.std.specs.String.{string_bytes}
-use Rattle.simd_cesu8.specs.Encoding.{Cesu8, encoding}
-use Rattle.uses.proofs.ReadPieces.{piece_read}
+use Rattle.std.proofs.Common.{◌≡◌, ◌+◌, ◌∙◌, ◌++◌, ℕ, sym, ap, arith, length, take, length-take, length-drop}
+use Rattle.uses.proofs.ReadPieces.{moved, left_says, written_inside, grown_front, written_after, rest_moved}
 use Rattle.uses.proofs.pieces.append_piece.Goals as goal
 
-pub returns-clause-received : goal.returns-clause-received
-returns-clause-received c =
-    let bytes = c.extend_from_slice.new.self.items in
-    let n = c.valid_up_to-whole.result in
-    piece_read c.concat.ensures (string_bytes c.args.text.now) c.as_str.result.now (string_bytes c.push_str.new.self) c.args.kept.now.items
-    c.args.piece.now bytes c.in_ok-rest.rest.items n (IsUtf8-string_bytes c.args.text.now) c.in_ok-push_str-in-Ok.ensures.bytes
-    (ap (λ t. encoding Cesu8 (chars t)) c.as_str.ensures ∙ c.in-Ok.ensures.text.1 ∙ ap (take n) c.deref-4.ensures.value)
-    (rw take_rest at c.in_ok-rest.ensures.items ∙ ap (drop n) c.deref-3.ensures.value)
-    (c.in_ok-extend_from_slice.ensures.items ∙ ap (λ bs. bs ++ c.args.piece.now) (c.in_ok-bytes.ensures.items ∙ c.deref.ensures.value))
+pub returns-clause-moves : goal.returns-clause-moves
+returns-clause-moves c =
+    let call = c.decode_strict-progress in
+    let bytes = c.args.bytes.now.items in
+    let before = c.args.text.now.items in
+    let start = c.len-start.result in
+    let grown = c.deref_mut.result.now in
+    let piece = rw c.deref.ensures.value at call.ensures in
+    let long : start ≡ length before = omega (arith, c.len-start.ensures, c.args.text.now.ok) in
+    let size : c.len-2.result ≡ length bytes = omega (arith, c.len-2.ensures, c.args.bytes.now.ok) in
+    let front : take start grown ≡ before =
+    rw long (grown_front before grown (start + c.len.result) _ (omega arith) (c.deref_mut.ensures.value ∙ c.in_ok-resize.ensures.items)) in
+    let inside = written_inside _ _ _ call.result piece in
+    let left = c.truncate-2.ensures.items ∙ rest_moved bytes _ call.result.read _ _ c.copy_within.ensures.items
+    (omega (arith, c.args.bytes.now.ok)) size piece.within in
+    let after = c.truncate.ensures.items
+    ∙ written_after start call.result.written _ (take start grown) call.new.buf _ _ (ap length front ∙ sym long) inside
+    (omega (arith, inside, call.auto.buf, c.deref_mut.ensures, c.in_ok-resize.ensures.len, length-take {A = ℕ}, length-drop {A = ℕ}))
+    ∙ ap (λ bs. bs ++ take call.result.written call.new.buf) front in
+    moved bytes c.truncate-2.new.self.items before c.truncate.new.self.items _ _ call.result piece left after
+
+pub returns-clause-state : goal.returns-clause-state
+returns-clause-state c =
+    let call = c.decode_strict-progress in
+    let bytes = c.args.bytes.now.items in
+    let piece = rw c.deref.ensures.value at call.ensures in
+    let size : c.len-2.result ≡ length bytes = omega (arith, c.len-2.ensures, c.args.bytes.now.ok) in
+    let left = c.truncate-2.ensures.items ∙ rest_moved bytes _ call.result.read _ _ c.copy_within.ensures.items
+    (omega (arith, c.args.bytes.now.ok)) size piece.within in
+    left_says c.bounds.ensures c.concat.ensures bytes c.truncate-2.new.self.items _ _ call.result piece
+    (omega (arith, c.in_ok-resize.ensures.len, c.deref_mut.ensures, c.len.ensures, c.args.bytes.now.ok, length-take {A = ℕ}, length-drop {A = ℕ}))
+    left
