@@ -1,6 +1,6 @@
-//! Callers of `simd_cesu8` and `java_text`, as users write them.
+//! Callers of `simd_cesu8`, `java_text` and `cesu8_stream`, as users write them.
 //!
-//! Each has a contract of its own, which is proved from the public clauses and laws of the two
+//! Each has a contract of its own, which is proved from the public clauses and laws of these
 //! crates. No proof here uses how an encoding is built. A law is used by a call, such as
 //! `laws::concat()`, which does nothing. docs/CALLING.md explains them.
 #![tactic(auto)]
