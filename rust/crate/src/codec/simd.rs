@@ -60,6 +60,19 @@ pub trait Vector: Copy {
     /// Returns a bit for each mark, the lowest for the first lane.
     fn bits(self) -> u64;
 
+    /// Returns the bits of two vectors in a row.
+    #[cfg_attr(not(debug_assertions), inline(always))]
+    fn bits_of_two(first: Self, second: Self) -> u64 {
+        first.bits() | second.bits() << size_of::<Self>()
+    }
+
+    /// Returns the bits of four vectors of 16 lanes in a row.
+    #[cfg_attr(not(debug_assertions), inline(always))]
+    fn bits_of_four([first, second, third, fourth]: [Self; 4]) -> u64 {
+        const { assert!(size_of::<Self>() == 16) };
+        Self::bits_of_two(first, second) | Self::bits_of_two(third, fourth) << 32
+    }
+
     /// Returns whether there is a mark.
     fn any(self) -> bool;
 
@@ -251,7 +264,12 @@ impl<V: Vector> Vector for Pair<V> {
 
     #[cfg_attr(not(debug_assertions), inline(always))]
     fn bits(self) -> u64 {
-        self.0.bits() | self.1.bits() << size_of::<V>()
+        V::bits_of_two(self.0, self.1)
+    }
+
+    #[cfg_attr(not(debug_assertions), inline(always))]
+    fn bits_of_two(first: Self, second: Self) -> u64 {
+        V::bits_of_four([first.0, first.1, second.0, second.1])
     }
 
     #[cfg_attr(not(debug_assertions), inline(always))]
