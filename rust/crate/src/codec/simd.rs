@@ -17,6 +17,7 @@ use self::neon as machine;
 use self::x86 as machine;
 
 use self::machine::Half;
+use crate::panics::vector_out_of_bounds;
 
 /// A vector of the machine, or what stands for one. A mark is a lane of all ones, or of zeros.
 pub trait Vector: Copy {
@@ -341,12 +342,6 @@ mod names {
 }
 pub use self::names::*;
 
-#[cold]
-#[inline(never)]
-fn out_of_bounds() -> ! {
-    panic!("a vector exceeds its slice")
-}
-
 const fn simd<const N: usize>(vector: <Width<N> as Lanes>::Vector) -> Simd<u8, N>
 where
     Width<N>: Lanes,
@@ -456,7 +451,7 @@ where
     #[cfg_attr(not(debug_assertions), inline(always))]
     pub fn from_slice_at(slice: &[u8], at: usize) -> Self {
         if slice.len() < N || at > slice.len() - N {
-            out_of_bounds();
+            vector_out_of_bounds();
         }
         // SAFETY: `N` bytes follow the offset, by the test.
         simd(unsafe { Vector::load(slice.as_ptr().add(at)) })
@@ -469,7 +464,7 @@ where
     pub fn from_slice_before(slice: &[u8], at: usize, before: usize) -> Self {
         let len = slice.len();
         if len < N || at < before || at > len - N && at - before > len - N {
-            out_of_bounds();
+            vector_out_of_bounds();
         }
         // SAFETY: `N` bytes follow the offset less `before`, by the test.
         simd(unsafe { Vector::load(slice.as_ptr().add(at - before)) })
@@ -484,7 +479,7 @@ where
     #[cfg_attr(not(debug_assertions), inline(always))]
     pub fn copy_to_slice_at(self, slice: &mut [u8], at: usize) {
         if slice.len() < N || at > slice.len() - N {
-            out_of_bounds();
+            vector_out_of_bounds();
         }
         // SAFETY: `N` bytes follow the offset, by the test.
         unsafe { self.0.store(slice.as_mut_ptr().add(at)) };
