@@ -17,7 +17,7 @@
 # a path of this machine. It builds a commit of a copy of the tree, with what is proved here. In a clean
 # clone that takes minutes.
 #
-# If pkg-config, CMake, c++, rustc, python3, man or java is missing, it says what it skipped. If a tool that
+# If pkg-config, CMake, c++, clang, rustc, python3, man or java is missing, it says what it skipped. If a tool that
 # dist.sh needs is missing, it skips everything. The status is 0 if nothing is wrong. It needs the
 # kit's `rt`, bash, awk, grep, sed, readelf and the core utilities.
 unset "${!GIT_@}"
@@ -325,6 +325,7 @@ fi
 if can_build_by_cmake 'keys.c by CMake'; then
     has_cmake=yes
     by_cmake 'keys.c by CMake' "-DCMAKE_PREFIX_PATH=$unpacked"
+    by_toolchain
     look_at_versions
 fi
 if can_build_cpp 'the file of C++'; then
@@ -340,6 +341,8 @@ run_program "$unpacked"
 shown_lines "$unpacked/README.md"
 shown_c
 shown_in_page
+shown_commands
+in_memory_sanitizer
 shown_in_program_page
 in_class_file
 if cc -std=c99 -O2 -Wall -Wextra -Werror -I "$unpacked/include" -o "$scratch/cesu8_damage" \
