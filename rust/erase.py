@@ -56,7 +56,7 @@ RULES = {
     "level": "a function that is not inlined is compiled with the features of its level",
     "reader": "a level may leave to the compiler where what passes no vector is inlined",
     "writer": "the same, for a function that writes: a level may inline it and no reader",
-    "loop": "the same, for one that writes in a loop, without `return`: a call takes little beside it",
+    "loop": "the same, for a loop without `return`, not over a mask's bits: a call takes little beside",
     "method": "a method is inlined, since it can't have a function with features in it",
     "inline": "without optimization, inlining everything takes minutes to compile",
 }
@@ -570,7 +570,9 @@ class Eraser:
         if "&mut" not in signature:
             return "reader"
         is_loop = "while" in body or "for" in body
-        return "loop" if is_loop and "return" not in body else "writer"
+        # A mask has few bits, so a call takes much time beside a loop over them.
+        is_over_bits = re.search(r"\b(\w+) &= \1 - 1;", "".join(body))
+        return "loop" if is_loop and "return" not in body and not is_over_bits else "writer"
 
     # Both.
 

@@ -33,6 +33,7 @@ pub mod implementation;
 pub mod java;
 mod level;
 pub mod mutf8;
+mod panics;
 #[cfg_attr(not(test), allow(dead_code))]
 mod plain;
 mod short;

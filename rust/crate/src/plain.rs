@@ -10,6 +10,7 @@ use alloc::string::String;
 use alloc::vec::Vec;
 use core::cmp::Ordering;
 
+use crate::panics::capacity_overflow;
 use crate::{DecodingError, SliceError, utf8};
 
 // The functions take the encoding as an argument, so that a program has one copy of each. Those that
@@ -230,12 +231,6 @@ fn put_text(
         }
     }
     Ok(needed)
-}
-
-#[cold]
-#[inline(never)]
-fn capacity_overflow() -> ! {
-    panic!("capacity overflow")
 }
 
 #[inline(never)]

@@ -5,6 +5,8 @@
 use alloc::vec::Vec;
 use core::slice::SliceIndex;
 
+use crate::panics::{no_capacity, range_out_of_bounds};
+
 /// The allocator.
 #[derive(Clone, Copy, Debug)]
 pub struct Global;
@@ -30,12 +32,6 @@ pub fn with_capacity(_: Global, capacity: usize) -> Result<Vec<u8>, AllocError> 
 pub fn reserve(out: &mut Vec<u8>, more: usize) -> Result<(), AllocError> {
     out.reserve(more);
     Ok(())
-}
-
-#[cold]
-#[inline(never)]
-fn no_capacity() -> ! {
-    panic!("a vector lacks capacity")
 }
 
 /// Appends to a vector that has the capacity. The methods of `Vec` would have code to grow it at
@@ -76,12 +72,6 @@ impl Append for Vec<u8> {
     }
 }
 
-#[cold]
-#[inline(never)]
-fn out_of_bounds() -> ! {
-    panic!("a range exceeds its slice")
-}
-
 /// The part of a slice in a range, which a proof has shown to be in bounds. The index operator would
 /// have, for each use in a program, a place in the source and what tells of the range.
 pub trait Part {
@@ -94,7 +84,7 @@ impl Part for [u8] {
     fn part<R: SliceIndex<[u8], Output = [u8]>>(&self, range: R) -> &[u8] {
         match self.get(range) {
             Some(part) => part,
-            None => out_of_bounds(),
+            None => range_out_of_bounds(),
         }
     }
 
@@ -102,7 +92,7 @@ impl Part for [u8] {
     fn part_mut<R: SliceIndex<[u8], Output = [u8]>>(&mut self, range: R) -> &mut [u8] {
         match self.get_mut(range) {
             Some(part) => part,
-            None => out_of_bounds(),
+            None => range_out_of_bounds(),
         }
     }
 }

@@ -17,6 +17,7 @@ use self::neon as machine;
 use self::x86 as machine;
 
 use self::machine::Half;
+use crate::panics::vector_out_of_bounds;
 
 /// A vector of the machine, or what stands for one. A mark is a lane of all ones, or of zeros.
 pub trait Vector: Copy {
@@ -59,6 +60,19 @@ pub trait Vector: Copy {
 
     /// Returns a bit for each mark, the lowest for the first lane.
     fn bits(self) -> u64;
+
+    /// Returns the bits of two vectors in a row.
+    #[cfg_attr(not(debug_assertions), inline(always))]
+    fn bits_of_two(first: Self, second: Self) -> u64 {
+        first.bits() | second.bits() << size_of::<Self>()
+    }
+
+    /// Returns the bits of four vectors of 16 lanes in a row.
+    #[cfg_attr(not(debug_assertions), inline(always))]
+    fn bits_of_four([first, second, third, fourth]: [Self; 4]) -> u64 {
+        const { assert!(size_of::<Self>() == 16) };
+        Self::bits_of_two(first, second) | Self::bits_of_two(third, fourth) << 32
+    }
 
     /// Returns whether there is a mark.
     fn any(self) -> bool;
@@ -251,7 +265,12 @@ impl<V: Vector> Vector for Pair<V> {
 
     #[cfg_attr(not(debug_assertions), inline(always))]
     fn bits(self) -> u64 {
-        self.0.bits() | self.1.bits() << size_of::<V>()
+        V::bits_of_two(self.0, self.1)
+    }
+
+    #[cfg_attr(not(debug_assertions), inline(always))]
+    fn bits_of_two(first: Self, second: Self) -> u64 {
+        V::bits_of_four([first.0, first.1, second.0, second.1])
     }
 
     #[cfg_attr(not(debug_assertions), inline(always))]
@@ -322,12 +341,6 @@ mod names {
     pub type u8x64 = Simd<u8, 64>;
 }
 pub use self::names::*;
-
-#[cold]
-#[inline(never)]
-fn out_of_bounds() -> ! {
-    panic!("a vector exceeds its slice")
-}
 
 const fn simd<const N: usize>(vector: <Width<N> as Lanes>::Vector) -> Simd<u8, N>
 where
@@ -438,7 +451,7 @@ where
     #[cfg_attr(not(debug_assertions), inline(always))]
     pub fn from_slice_at(slice: &[u8], at: usize) -> Self {
         if slice.len() < N || at > slice.len() - N {
-            out_of_bounds();
+            vector_out_of_bounds();
         }
         // SAFETY: `N` bytes follow the offset, by the test.
         simd(unsafe { Vector::load(slice.as_ptr().add(at)) })
@@ -451,7 +464,7 @@ where
     pub fn from_slice_before(slice: &[u8], at: usize, before: usize) -> Self {
         let len = slice.len();
         if len < N || at < before || at > len - N && at - before > len - N {
-            out_of_bounds();
+            vector_out_of_bounds();
         }
         // SAFETY: `N` bytes follow the offset less `before`, by the test.
         simd(unsafe { Vector::load(slice.as_ptr().add(at - before)) })
@@ -466,7 +479,7 @@ where
     #[cfg_attr(not(debug_assertions), inline(always))]
     pub fn copy_to_slice_at(self, slice: &mut [u8], at: usize) {
         if slice.len() < N || at > slice.len() - N {
-            out_of_bounds();
+            vector_out_of_bounds();
         }
         // SAFETY: `N` bytes follow the offset, by the test.
         unsafe { self.0.store(slice.as_mut_ptr().add(at)) };

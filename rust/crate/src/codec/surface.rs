@@ -25,14 +25,8 @@ use super::decode::valid::valid_up_to_other;
 use super::kit::is_utf8_by_parts;
 use super::memory::{AllocError, Global, Part};
 use super::{decode, encode};
+use crate::panics::capacity_overflow;
 use crate::{DecodingError, SliceError, short};
-
-/// The length of a text fits no `usize`. Memory that is refused ends the process before.
-#[cold]
-#[inline(never)]
-fn capacity_overflow() -> ! {
-    panic!("capacity overflow")
-}
 
 /// Returns whether a byte is there that the encoding changes. Each call that needs this calls the one
 /// function, which is long.

@@ -7,6 +7,9 @@ use super::{Run, Vector};
 
 pub type Half = uint8x16_t;
 
+/// The bit of each lane in the mask of its eight lanes.
+const BIT_OF_LANE: [u8; 16] = [1, 2, 4, 8, 16, 32, 64, 128, 1, 2, 4, 8, 16, 32, 64, 128];
+
 /// Defines the methods that are one instruction.
 macro_rules! instructions {
     ($($name:ident($($other:ident),*) = $of:ident;)*) => {
@@ -79,14 +82,38 @@ impl Vector for uint8x16_t {
 
     #[cfg_attr(not(debug_assertions), inline(always))]
     fn bits(self) -> u64 {
-        const BITS: [u8; 16] = [1, 2, 4, 8, 16, 32, 64, 128, 1, 2, 4, 8, 16, 32, 64, 128];
         // SAFETY: an array of 16 bytes, and NEON.
         unsafe {
-            let bits = vandq_u8(self, vld1q_u8(BITS.as_ptr()));
+            let bits = vandq_u8(self, vld1q_u8(BIT_OF_LANE.as_ptr()));
             let bits = vpaddq_u8(bits, bits);
             let bits = vpaddq_u8(bits, bits);
             let bits = vpaddq_u8(bits, bits);
             u64::from(vgetq_lane_u16::<0>(vreinterpretq_u16_u8(bits)))
+        }
+    }
+
+    #[cfg_attr(not(debug_assertions), inline(always))]
+    fn bits_of_two(first: Self, second: Self) -> u64 {
+        // SAFETY: an array of 16 bytes, and NEON.
+        unsafe {
+            let bit_of_lane = vld1q_u8(BIT_OF_LANE.as_ptr());
+            let bits = vpaddq_u8(vandq_u8(first, bit_of_lane), vandq_u8(second, bit_of_lane));
+            let bits = vpaddq_u8(bits, bits);
+            let bits = vpaddq_u8(bits, bits);
+            u64::from(vgetq_lane_u32::<0>(vreinterpretq_u32_u8(bits)))
+        }
+    }
+
+    #[cfg_attr(not(debug_assertions), inline(always))]
+    fn bits_of_four([first, second, third, fourth]: [Self; 4]) -> u64 {
+        // SAFETY: an array of 16 bytes, and NEON.
+        unsafe {
+            let bit_of_lane = vld1q_u8(BIT_OF_LANE.as_ptr());
+            let front = vpaddq_u8(vandq_u8(first, bit_of_lane), vandq_u8(second, bit_of_lane));
+            let back = vpaddq_u8(vandq_u8(third, bit_of_lane), vandq_u8(fourth, bit_of_lane));
+            let bits = vpaddq_u8(front, back);
+            let bits = vpaddq_u8(bits, bits);
+            vgetq_lane_u64::<0>(vreinterpretq_u64_u8(bits))
         }
     }
 

@@ -1,0 +1,27 @@
+//! The panics, each one function for all levels.
+#![allow(dead_code)] // The plain form has the first alone.
+
+/// The length of a text fits no `usize`. Memory that is refused ends the process before.
+#[cold]
+#[inline(never)]
+pub(crate) fn capacity_overflow() -> ! {
+    panic!("capacity overflow")
+}
+
+#[cold]
+#[inline(never)]
+pub(crate) fn no_capacity() -> ! {
+    panic!("a vector lacks capacity")
+}
+
+#[cold]
+#[inline(never)]
+pub(crate) fn range_out_of_bounds() -> ! {
+    panic!("a range exceeds its slice")
+}
+
+#[cold]
+#[inline(never)]
+pub(crate) fn vector_out_of_bounds() -> ! {
+    panic!("a vector exceeds its slice")
+}
