@@ -5,7 +5,8 @@
 # - keys.c is built with pkg-config and with CMake, with the archive and with the shared object, from the
 #   unpacked release, and after install.sh installed it with the library in lib, lib64 and
 #   lib/x86_64-linux-gnu, and below DESTDIR;
-# - the other examples, cesu8_damage, what the pages show, a file of C++ and a call from Python are run.
+# - the other examples, cesu8_damage, what the pages show, a file of C++ and a call from Python are run;
+# - tests/sizes.sh compares the size of the library and the stack of its calls with their lines.
 #
 # For aarch64 it only tests the pages of the release; tests/aarch64.sh tests the rest.
 #
@@ -312,6 +313,7 @@ look_at_pages
 look_at_cross_pages
 look_at_archive
 look_at_sections
+RELEASE=$scratch/first bash "$top/tests/sizes.sh" || wrong 'the library has other sizes'
 look_at_shared
 look_at_mark
 call_exports -DARCHIVE "$unpacked/lib/libcesu8.a"
