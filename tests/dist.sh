@@ -5,7 +5,8 @@
 # - keys.c is built with pkg-config and with CMake, with the archive and with the shared object, from the
 #   unpacked release, and after install.sh installed it with the library in lib, lib64 and
 #   lib/x86_64-linux-gnu, and below DESTDIR;
-# - the other examples, cesu8_damage, what the pages show, a file of C++ and a call from Python are run.
+# - the other examples, cesu8_damage, what the pages show, a file of C++ and a call from Python are run;
+# - tests/sizes.sh compares the size of the library and the stack of its calls with their lines.
 #
 # For aarch64 it only tests the pages of the release; tests/aarch64.sh tests the rest.
 #
@@ -17,7 +18,7 @@
 # a path of this machine. It builds a commit of a copy of the tree, with what is proved here. In a clean
 # clone that takes minutes.
 #
-# If pkg-config, CMake, c++, rustc, python3, man or java is missing, it says what it skipped. If a tool that
+# If pkg-config, CMake, c++, clang, rustc, python3, man or java is missing, it says what it skipped. If a tool that
 # dist.sh needs is missing, it skips everything. The status is 0 if nothing is wrong. It needs the
 # kit's `rt`, bash, awk, grep, sed, readelf and the core utilities.
 unset "${!GIT_@}"
@@ -312,6 +313,7 @@ look_at_pages
 look_at_cross_pages
 look_at_archive
 look_at_sections
+RELEASE=$scratch/first bash "$top/tests/sizes.sh" || wrong 'the library has other sizes'
 look_at_shared
 look_at_mark
 call_exports -DARCHIVE "$unpacked/lib/libcesu8.a"
@@ -325,6 +327,7 @@ fi
 if can_build_by_cmake 'keys.c by CMake'; then
     has_cmake=yes
     by_cmake 'keys.c by CMake' "-DCMAKE_PREFIX_PATH=$unpacked"
+    by_toolchain
     look_at_versions
 fi
 if can_build_cpp 'the file of C++'; then
@@ -340,6 +343,8 @@ run_program "$unpacked"
 shown_lines "$unpacked/README.md"
 shown_c
 shown_in_page
+shown_commands
+in_memory_sanitizer
 shown_in_program_page
 in_class_file
 if cc -std=c99 -O2 -Wall -Wextra -Werror -I "$unpacked/include" -o "$scratch/cesu8_damage" \

@@ -8,8 +8,20 @@ by_pkg_config() {
     export PKG_CONFIG_PATH=$1/pkgconfig
     [[ $(pkg-config --modversion cesu8) == "$version" ]] || wrong "$2 has the wrong version"
     [[ $(pkg-config --variable=libdir cesu8) -ef $1 ]] || wrong "$2 has the wrong libdir"
-    by_both "$2" -Wl,-rpath,"$(pkg-config --variable=libdir cesu8)"
+    by_both "$2" -Wl,-rpath,"$(realpath "$(pkg-config --variable=libdir cesu8)")"
     unset PKG_CONFIG_PATH
+}
+
+# Builds keys.c with CMake and a toolchain file that makes CMake search only other folders, as C.md says: the
+# file of the library is named, or the release is one of these folders.
+by_toolchain() {
+    local file=$scratch/only.cmake
+    printf '%s\n' "set(CMAKE_FIND_ROOT_PATH \"$scratch/other\")" \
+        'set(CMAKE_FIND_ROOT_PATH_MODE_PACKAGE ONLY)' >"$file"
+    by_cmake 'keys.c by CMake with the folder of its file' "-DCMAKE_TOOLCHAIN_FILE=$file" \
+        "-Dcesu8_DIR=$unpacked/lib/cmake/cesu8"
+    echo "list(APPEND CMAKE_FIND_ROOT_PATH \"$unpacked\")" >>"$file"
+    by_cmake 'keys.c by CMake with the release as a root' "-DCMAKE_TOOLCHAIN_FILE=$file"
 }
 
 # Tests which versions CMake accepts, and that it accepts no library of 64 bits for other
@@ -129,7 +141,7 @@ install_half() {
 
 # Installs below DESTDIR, as for a package, with a /lib that is a link to /usr/lib.
 install_below() {
-    local root=$scratch/root libdir=lib/x86_64-linux-gnu files
+    local root=$scratch/root libdir=lib/x86_64-linux-gnu files line
     (cd "$unpacked" && DESTDIR=$root quietly ./install.sh /usr "$libdir") ||
         wrong 'install.sh fails with DESTDIR'
     ln -s usr/lib "$root/lib" || exit 2
@@ -143,7 +155,12 @@ install_below() {
     diff <(echo "$files") <(cd "$root" && find usr ! -type d -printf '%p %M\n' | sort) ||
         wrong 'install.sh installs the wrong files'
     if [[ -n $has_pkg_config ]]; then
-        export PKG_CONFIG_SYSROOT_DIR=$root PKG_CONFIG_PATH=$root/usr/$libdir/pkgconfig
+        # The line of C.md.
+        line=$(sed -n 's/^    \(export PKG_CONFIG_SYSROOT_DIR=.*\)/\1/p' "$unpacked/C.md")
+        line=${line//=ROOT/=\$root}
+        eval "${line/\/PREFIX\/lib\//\/usr\/\$libdir\/}"
+        [[ $PKG_CONFIG_LIBDIR == "$root/usr/$libdir/pkgconfig" ]] ||
+            wrong 'C.md sets the wrong folders for pkg-config'
         export PKG_CONFIG_ALLOW_SYSTEM_CFLAGS=1 PKG_CONFIG_ALLOW_SYSTEM_LIBS=1
         by_both 'keys.c by pkg-config from DESTDIR' -Wl,-rpath,"$root/usr/$libdir"
         unset "${!PKG_CONFIG_@}"

@@ -49,6 +49,60 @@ shown_in_page() {
         cmp - "$scratch/shown/printed" || wrong 'what C.md shows prints something else'
 }
 
+# Tests the commands of C.md that build a program here, with keys.c as the program. The path that the loader
+# gets from pkg-config must have no `..`.
+shown_commands() {
+    local folder=$scratch/shown/commands line setting
+    mkdir "$folder" && cp "$crate/examples/keys.c" "$folder/program.c" || exit 2
+    setting=$(sed -n 's/^    \(export PKG_CONFIG_PATH=.*\)/\1/p' "$unpacked/C.md")
+    sed -n 's/^    \(cc .*program\.c .*\)/\1/p' "$unpacked/C.md" >"$folder/lines"
+    (($(wc -l <"$folder/lines") == 3)) || wrong 'C.md does not show three commands of cc'
+    while read -r line; do
+        [[ $line != *pkg-config* || -n $has_pkg_config ]] || continue
+        rm -f "$folder/program"
+        (cd "$folder" && release=$unpacked quietly sh -c "$setting; $line -o program") ||
+            wrong "this line of C.md fails: $line"
+        example "$folder/program" "keys.c as C.md says: ${line:0:50} ..,"
+        [[ $line != *-rpath* ]] || readelf -dW "$folder/program" | grep -qF "[$(realpath "$unpacked/lib")]" ||
+            wrong "this line of C.md gives the loader another path: $line"
+    done <"$folder/lines"
+}
+
+# Tests what C.md says of MemorySanitizer, if clang has it: it reports a result that is returned in memory,
+# and the buffer, unless __msan_unpoison is called on them.
+in_memory_sanitizer() {
+    local file=$scratch/shown/sanitized.c part
+    local flags=(-g -fsanitize=memory -I "$unpacked/include" -o "$file.out" "$file" "$unpacked/lib/libcesu8.a")
+    cat >"$file" <<'C'
+#include <cesu8.h>
+#include <sanitizer/msan_interface.h>
+int main(void)
+{
+    static const uint8_t text[] = {'a', 0xF0, 0x9F, 0x92, 0x96};
+    uint8_t buffer[CESU8_MAX_ENCODED(sizeof text)];
+    struct cesu8_progress progress =
+        cesu8_stream_encode(text, sizeof text, buffer, sizeof buffer);
+#ifndef RESULT
+    __msan_unpoison(&progress, sizeof progress);
+#endif
+    if (progress.status != CESU8_OK)
+        return 2;
+#ifndef BUFFER
+    __msan_unpoison(buffer, progress.written);
+#endif
+    return buffer[1] == 0xED ? 0 : 3;
+}
+C
+    can_build 'MemorySanitizer' clang -DNONE "${flags[@]}" || return 0
+    "$file.out" >"$scratch/said" 2>&1 || { cat "$scratch/said"; wrong 'MemorySanitizer reports an error'; }
+    for part in RESULT BUFFER; do
+        quietly clang "-D$part" "${flags[@]}" || exit 2
+        "$file.out" >"$scratch/said" 2>&1
+        grep -q 'MemorySanitizer: use-of-uninitialized-value' "$scratch/said" ||
+            wrong "MemorySanitizer does not report ${part,,} as uninitialized, as C.md says"
+    done
+}
+
 # Tests the shell blocks of PROGRAM.md, as one script for the installed program: it must print what the
 # comments after the lines say.
 shown_in_program_page() {
