@@ -143,8 +143,8 @@ test_forms() {
     pass
 }
 
-# Tests the crate for another processor, by rustc 1.85: `emulate ARCHITECTURE TARGET EMULATOR`. All
-# that is skipped is what takes an emulator long.
+# Tests the crate for another processor, by rustc 1.85: `emulate ARCHITECTURE TARGET EMULATOR`. It skips
+# what takes long in an emulator, and the comparison with the library for C, which is for x86-64.
 emulate() {
     local folder name=${2^^}
     folder=$(dirname "$RUSTC_1_85")
@@ -154,6 +154,7 @@ emulate() {
         return
     fi
     if (
+        unset CESU8_LIBRARY
         export "${name}_LINKER=$folder/link-$1" "${name}_RUSTFLAGS=-C linker-flavor=ld"
         export "${name}_RUNNER=$folder/usr/bin/$3 -L $folder" RUSTC=$RUSTC_1_85
         export CARGO_PROFILE_TEST_OPT_LEVEL=1
