@@ -57,7 +57,7 @@ impl Flavor for Mutf8Flavor {
     ghost are_null = { refl };
 }
 
-/// Returns a mask of the bytes that are encoded as C0 80: FF for these, and 00 for the others.
+/// Returns FF in the lane of each byte that is encoded as C0 80, and 00 in the others.
 #[inline(always)]
 pub fn nulls<F: Flavor>(bytes: u8x32) -> u8x32
     ensures { result ≡ map (λ b. mask (is_null F.flavor b)) bytes }

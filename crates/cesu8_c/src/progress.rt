@@ -10,8 +10,8 @@ use cesu8_stream::State;
 #[repr(C)]
 #[derive(Drop)]
 pub struct Progress {
-    /// `OK` if all bytes were read, otherwise why not: `INCOMPLETE`, `FULL`, `INVALID` from a call
-    /// that decodes, or `NOT_UTF8` from a call that encodes.
+    /// `OK` if all bytes were read, otherwise why not: `INCOMPLETE` or `FULL`, or for damage
+    /// `INVALID` from a call that decodes and `NOT_UTF8` from a call that encodes.
     pub status: u32,
     /// How many bytes at the start of the input were read.
     pub read: usize,

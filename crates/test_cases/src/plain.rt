@@ -83,8 +83,8 @@ fn width(flavor: Flavor, bytes: &[u8]) -> usize
     }
 }
 
-/// The character that these bytes encode, computed from its bits in each byte, or U+FFFD for
-/// damage.
+/// The character that these bytes encode, or U+FFFD for damage. Each byte holds some of the bits
+/// of the scalar value.
 fn character(bytes: &[u8]) -> char {
     let scalar = match bytes {
         [a] => u32::from(*a),
@@ -102,8 +102,9 @@ fn character(bytes: &[u8]) -> char {
     char::from_u32(scalar).unwrap_or('\u{FFFD}')
 }
 
-/// A lossy reading: its text, the number of bytes that are not part of a character, and the number
-/// of bytes before the first of these.
+/// A lossy reading: its text, with one U+FFFD for each byte that is not part of a character, as the
+/// library defines it; the number of these bytes; and the offset of the first one, or the length of
+/// the input if there is none.
 #[derive(Drop)]
 pub struct Reading {
     pub text: String,

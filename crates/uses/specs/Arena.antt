@@ -9,7 +9,8 @@ use Rattle.uses.specs.Texts.{joined}
 abbrev pub first_encoded : List (Bor (List ℕ)) → ℕ → List ℕ
 first_encoded texts count = encoding Cesu8 (joined (take count texts))
 
--- They stand at the front of the arena, the end of each is told, and the rest is as before.
+-- The encodings of the first `count` texts are the first `used` bytes of the arena, and the bytes
+-- after them are unchanged. `ends` has the offset at which each of these encodings ends.
 pub record HoldsFirst (texts : List (Bor (List ℕ))) (count used : ℕ)
     (old new ends : List ℕ) : Type 0 where
   pub front : StandsAtFront (first_encoded texts count) used old new

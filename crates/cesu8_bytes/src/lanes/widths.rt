@@ -8,8 +8,8 @@ use super::class::LANES;
 use super::groups::InGroups;
 use super::search::any_in_chunks;
 
-/// Returns whether some byte is in a class. Each width tests whole chunks of what the wider ones
-/// left over, and `fallback` tests a single byte at the end.
+/// Returns whether some byte is in a class. Vectors of 64 bytes test as many whole chunks as there
+/// are, narrower vectors test the bytes that are left, and `fallback` tests a single byte at the end.
 #[inline(always)]
 pub fn any_by_widths<C, F: Fn(&[u8]) -> bool>(value: &[u8], fallback: F) -> bool
 where

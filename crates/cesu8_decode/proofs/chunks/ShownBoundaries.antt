@@ -1,4 +1,5 @@
--- Bytes before which no encoded character can cross, by their value alone.
+-- Some bytes show by their value alone that a character boundary is right before them: every byte
+-- that cannot be the second or a later byte of an encoded character.
 use Rattle.std.proofs.Common.{◌≡◌, ℕ, zero, suc, ◌+◌, ◌-◌, ◌<◌, ◌≤◌, ◌⊎◌, inl, ⊎_elim, List, [], ◌∷◌, ◌++◌, sym, ap, ◌∙◌, subst, arith, length, take, drop, get_or}
 use Rattle.std.specs.Prelude.{⊤}
 use Rattle.std.proofs.lemmas.Bool.{cases_lt}
@@ -15,7 +16,7 @@ use Rattle.cesu8_text.proofs.text.Shapes.{Shape, one, two, three, pair, shape}
 abbrev pub MayBeLater : ℕ → Type 0
 MayBeLater b = IsContinuation b ⊎ (b ≡ 0xED)
 
--- Each byte can be a later byte of a character.
+-- Each byte of the list can be a later byte of a character.
 MayAllBe : List ℕ → Type 0
 MayAllBe [] = ⊤
 MayAllBe (b ∷ bytes) = MayBeLater b × MayAllBe bytes
@@ -45,7 +46,8 @@ later_byte f c rest k (pair w x y z digits) less =
     let all : MayAllBe later = grind arith in
     rw is (each_may later rest k all (omega (arith, less, ap length is)))
 
--- No character crosses the offset before a byte that cannot be a later byte.
+-- If a byte cannot be a later byte of a character, no character extends across the offset before
+-- that byte.
 pub none_crosses_shown : (f : Flavor) (bytes : List ℕ) (n : ℕ) → n < length bytes → ¬ (MayBeLater (get_or bytes n 0)) →
     NoneCrosses f (take n bytes) (drop n bytes)
 none_crosses_shown f bytes n inside other i c stands begins =

@@ -33,7 +33,7 @@ pub none_changed : (f : Flavor) (text : List ℕ) → IsText text → Any (IsCha
 none_changed f text is_text found =
     grind (arith, unchanged, encoded_bytes f text is_text found.0 found.1)
 
--- Bytes that are both UTF-8 and an encoding decode to the same text as either.
+-- Bytes that are both valid UTF-8 and an encoding decode to the same text in both ways.
 pub same_in_both : SameText
 same_in_both f bytes text other is_utf8_of reads =
     let none : Any (IsChangedByte f) (utf8 text) → ⊥ =

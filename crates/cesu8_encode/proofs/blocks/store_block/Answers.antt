@@ -1,5 +1,5 @@
 -- Each row is packed by its eight bits of the mask, and four rows after one another are the packed
--- block. Its first `count` bytes are a prefix of that.
+-- block. The encoding of the first `count` bytes is a prefix of it, whose length is counted.
 use Rattle.std.proofs.Common.{rules, ◌++◌, ap, ◌∙◌, arith, map, take}
 use Rattle.std.specs.List.{range_with_len}
 use Rattle.std.proofs.lemmas.List.{length-take-le}

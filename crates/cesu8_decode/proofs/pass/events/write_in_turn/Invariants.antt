@@ -1,3 +1,5 @@
+-- In each round the bytes of the window before `read` have been written up to `end`, and `events` has
+-- the bits of the events that are left. The lowest bit is cleared in each round, so the number falls.
 use Rattle.cesu8_decode.proofs.decoder.Events.{AreRead}
 use Rattle.cesu8_decode.proofs.pass.events.write_in_turn.Given as goal
 
