@@ -442,14 +442,14 @@ struct inputs {
     size_t count;
     uint8_t *buffer;
     size_t room;
-    struct measured_outcome *told;
+    struct measured_outcome *outcomes;
 };
 
 static struct inputs inputs_of(const struct row *row)
 {
     struct inputs inputs = {malloc(row->count * sizeof *inputs.all), row->count,
                             malloc(3 * row->most), 3 * row->most,
-                            malloc(row->count * sizeof *inputs.told)};
+                            malloc(row->count * sizeof *inputs.outcomes)};
     seed = row->most;
     taken = (taken + PAGE - 1) / PAGE * PAGE;
     uint8_t *bytes = malloc(row->count * row->most);
@@ -480,11 +480,11 @@ static size_t make(const struct call *call, struct inputs inputs)
     size_t room = call->writes ? inputs.room : 0;
     if (call->each != NULL) {
         size_t length = inputs.all->length;
-        *inputs.told = call->each(inputs.all->bytes, inputs.count * length, length, TIMES);
+        *inputs.outcomes = call->each(inputs.all->bytes, inputs.count * length, length, TIMES);
         return 1;
     }
     for (size_t i = 0; i < inputs.count; i++)
-        inputs.told[i] = call->one(inputs.all[i].bytes, inputs.all[i].length, inputs.buffer, room);
+        inputs.outcomes[i] = call->one(inputs.all[i].bytes, inputs.all[i].length, inputs.buffer, room);
     return inputs.count;
 }
 
@@ -498,9 +498,9 @@ static size_t count(const struct call *call, struct inputs inputs, enum outcome 
     size_t answers = make(call, inputs);
     end_counting();
     for (size_t i = 0; i < answers; i++) {
-        struct measured_outcome told = inputs.told[i];
-        wrong += told.has_answer == (outcome == REFUSED) || told.is_invalid == told.has_answer ||
-                 told.is_borrowed != (outcome == BORROWED);
+        struct measured_outcome found = inputs.outcomes[i];
+        wrong += found.has_answer == (outcome == REFUSED) || found.is_invalid == found.has_answer ||
+                 found.is_borrowed != (outcome == BORROWED);
     }
     return wrong;
 }

@@ -63,43 +63,43 @@ _Static_assert(1966050 / CESU8_MAX_JAVA_READ_LOSSY == 10, "CESU8_MAX_JAVA_READ_L
 
 // The result of a call, in one form for all. A decision is a length here, 1 for yes, and so is an order: 0
 // for less, 1 for equal and 2 for greater.
-struct told {
+struct result {
     enum cesu8_status status;
     size_t length, taken;
 };
 
-typedef struct told call(const uint8_t *input, size_t length, uint8_t *buffer, size_t buffer_length);
+typedef struct result call(const uint8_t *input, size_t length, uint8_t *buffer, size_t buffer_length);
 
 #define PLACES(name)                                                                               \
-    static struct told name(const uint8_t *input, size_t n, uint8_t *buffer, size_t m)             \
+    static struct result name(const uint8_t *input, size_t n, uint8_t *buffer, size_t m)           \
     {                                                                                              \
         struct cesu8_answer answer = cesu8_##name(input, n, buffer, m);                            \
-        return (struct told){answer.status, answer.length, 0};                                     \
+        return (struct result){answer.status, answer.length, 0};                                   \
     }
 #define TELLS(name)                                                                                \
-    static struct told name(const uint8_t *input, size_t n, uint8_t *buffer, size_t m)             \
+    static struct result name(const uint8_t *input, size_t n, uint8_t *buffer, size_t m)           \
     {                                                                                              \
         (void)buffer, (void)m;                                                                     \
         struct cesu8_answer answer = cesu8_##name(input, n);                                       \
-        return (struct told){answer.status, answer.length, 0};                                     \
+        return (struct result){answer.status, answer.length, 0};                                   \
     }
 #define DECIDES(name)                                                                              \
-    static struct told name(const uint8_t *input, size_t n, uint8_t *buffer, size_t m)             \
+    static struct result name(const uint8_t *input, size_t n, uint8_t *buffer, size_t m)           \
     {                                                                                              \
         (void)buffer, (void)m;                                                                     \
         struct cesu8_decision decision = cesu8_##name(input, n);                                   \
-        return (struct told){decision.status, decision.is_needed, 0};                              \
+        return (struct result){decision.status, decision.is_needed, 0};                            \
     }
 #define READS(name)                                                                                \
-    static struct told name(const uint8_t *input, size_t n, uint8_t *buffer, size_t m)             \
+    static struct result name(const uint8_t *input, size_t n, uint8_t *buffer, size_t m)           \
     {                                                                                              \
         struct cesu8_reading reading = cesu8_##name(input, n, buffer, m);                          \
-        return (struct told){reading.status, reading.length, reading.taken};                       \
+        return (struct result){reading.status, reading.length, reading.taken};                     \
     }
 
 // The input is two texts, separated by a byte FE, which no text contains.
 #define COMPARES(name)                                                                             \
-    static struct told name(const uint8_t *input, size_t n, uint8_t *buffer, size_t m)             \
+    static struct result name(const uint8_t *input, size_t n, uint8_t *buffer, size_t m)           \
     {                                                                                              \
         (void)buffer, (void)m;                                                                     \
         const uint8_t *between = n == 0 ? NULL : memchr(input, 0xFE, n);                           \
@@ -108,7 +108,7 @@ typedef struct told call(const uint8_t *input, size_t length, uint8_t *buffer, s
         size_t other_length = between == NULL ? n : n - front - 1;                                 \
         struct cesu8_comparison compared = cesu8_##name(input, front, other, other_length);        \
         size_t order = compared.status == CESU8_OK ? (size_t)(compared.order + 1) : 0;             \
-        return (struct told){compared.status, order, 0};                                           \
+        return (struct result){compared.status, order, 0};                                         \
     }
 
 DECIDES(needs_encoded)
@@ -415,20 +415,20 @@ static char *place(struct block block, enum side side, size_t length)
 }
 
 // The expected result, with the expected content of the buffer.
-static struct told expected(const struct row *row, size_t buffer_length, char *buffer)
+static struct result expected(const struct row *row, size_t buffer_length, char *buffer)
 {
     if (row->status != OK)
-        return (struct told){row->status, 0, row->taken};
+        return (struct result){row->status, 0, row->taken};
     if (row->answer.start == NULL)
-        return (struct told){OK, row->answer.length, row->taken};
+        return (struct result){OK, row->answer.length, row->taken};
     if (buffer_length < row->answer.length)
-        return (struct told){CESU8_TOO_SMALL, row->answer.length, row->taken};
+        return (struct result){CESU8_TOO_SMALL, row->answer.length, row->taken};
     memcpy(buffer, row->answer.start, row->answer.length);
-    return (struct told){OK, row->answer.length, row->taken};
+    return (struct result){OK, row->answer.length, row->taken};
 }
 
-static void print_wrong(const struct row *row, size_t buffer_length, struct told got,
-                        struct told wanted, bool is_buffer_right)
+static void print_wrong(const struct row *row, size_t buffer_length, struct result got,
+                        struct result wanted, bool is_buffer_right)
 {
     printf("wrong: %s of", row->name);
     for (size_t i = 0; i < row->input.length && i < 32; i++)
@@ -458,13 +458,13 @@ static bool agrees(const struct row *row, size_t buffer_length, enum side side, 
     memcpy(input, row->input.start, row->input.length);
     memset(seen, FILLING, seen_length);
     memset(wanted_bytes, FILLING, seen_length);
-    struct told wanted = expected(row, buffer_length, wanted_bytes + (buffer - seen));
+    struct result wanted = expected(row, buffer_length, wanted_bytes + (buffer - seen));
 
     if (is_null && row->input.length == 0)
         input = NULL;
     if (is_null && buffer_length == 0)
         buffer = NULL;
-    struct told got =
+    struct result got =
         row->call((const uint8_t *)input, row->input.length, (uint8_t *)buffer, buffer_length);
 
     bool is_buffer_right = memcmp(seen, wanted_bytes, seen_length) == 0;

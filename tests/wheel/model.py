@@ -108,16 +108,16 @@ def replaced(data: bytes, place: int, errors: str) -> tuple[str, int] | None:
 def decoded(data: bytes, encoding: str, errors: str) -> str | int:
     """The text with one of Python's handlers, or the offset of the byte that is rejected."""
     text = ""
-    behind = 0
+    end = 0
     for character, place in parts(data, encoding):
-        if place < behind:
+        if place < end:
             continue
         if character is None:
             answer = replaced(data, place, errors)
             if answer is None:
                 return place
             character, count = answer
-            behind = place + count
+            end = place + count
         text += character
     return text
 

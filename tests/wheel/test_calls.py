@@ -233,10 +233,10 @@ class JavaStrings(unittest.TestCase):
             for errors in ("replace", "ignore", "backslashreplace"):
                 place = 0
                 for string in strings:
-                    text, behind = cesu8.read_utf(row, place, errors)
+                    text, end = cesu8.read_utf(row, place, errors)
                     self.assertEqual(text, model.decoded(string, "mutf-8", errors))
-                    self.assertEqual(behind, place + 2 + len(string))
-                    place = behind
+                    self.assertEqual(end, place + 2 + len(string))
+                    place = end
                 self.assertEqual(place, len(data))
 
     def test_handlers_stay_in_the_string(self) -> None:

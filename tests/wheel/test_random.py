@@ -89,10 +89,10 @@ class Random(unittest.TestCase):
             return self.by_call(data, encoding, errors)
         front = self.random.randbytes(self.random.randrange(4))
         row = front + len(data).to_bytes(2, "big") + data + self.random.choice((b"", b"\x96\x80"))
-        text, behind = cesu8.read_utf(bytearray(row), len(front), errors)
+        text, end = cesu8.read_utf(bytearray(row), len(front), errors)
         again = cesu8.read_utf(row, len(front), errors)
-        self.assertEqual((text, behind), again)
-        self.assertEqual(behind, len(front) + 2 + len(data))
+        self.assertEqual((text, end), again)
+        self.assertEqual(end, len(front) + 2 + len(data))
         return text
 
     def in_two(self, data: bytes, encoding: str, errors: str) -> str:

@@ -85,9 +85,9 @@ impl Random {
     }
 }
 
-/// What a call of the crate returns for a slice of this length, as the library for C tells it, and
+/// What a call of the crate returns for a slice of this length, in the form of the library for C, and
 /// the slice.
-fn told(
+fn returned(
     call: impl FnOnce(&mut [u8]) -> Result<usize, SliceError>,
     room: usize,
 ) -> (Answer, Vec<u8>) {
@@ -101,8 +101,8 @@ fn told(
     (answer, buf)
 }
 
-/// The same by the library for C.
-fn told_by(call: Call, input: &[u8], room: usize) -> (Answer, Vec<u8>) {
+/// What a call of the library for C returns for a slice of this length, and the slice.
+fn returned_by_c(call: Call, input: &[u8], room: usize) -> (Answer, Vec<u8>) {
     let mut buf = vec![0xEE; room];
     // SAFETY: pointers and lengths of slices.
     let answer = unsafe { call(input.as_ptr(), input.len(), buf.as_mut_ptr(), buf.len()) };
@@ -118,11 +118,11 @@ fn compare(
     what: &str,
 ) -> Option<Vec<u8>> {
     let room = 3 * input.len() + 5;
-    let (answer, buf) = told(call, room);
-    assert_eq!(told_by(export, input, room), (answer, buf.clone()), "{what} of {input:02X?}");
+    let (answer, buf) = returned(call, room);
+    assert_eq!(returned_by_c(export, input, room), (answer, buf.clone()), "{what} of {input:02X?}");
     for room in [answer.length, answer.length.saturating_sub(1)] {
         assert!(
-            told(call, room) == told_by(export, input, room),
+            returned(call, room) == returned_by_c(export, input, room),
             "{what} of {input:02X?} to {room} bytes"
         );
     }
