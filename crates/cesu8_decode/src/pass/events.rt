@@ -28,6 +28,12 @@ use std::simd::prelude::*;
 /// How many bytes can be stored after the text of a window.
 pub const STORED_AFTER: usize = LANES;
 
+/// The length of C0 80.
+const NULL: usize = 2;
+
+/// The length of its character in UTF-8.
+const NULL_UTF8: usize = 1;
+
 /// How many replacement characters one store writes.
 const AT_ONCE: usize = 10;
 
@@ -149,10 +155,16 @@ fn write_changed<F: Flavor>(
         end out.old out.new result.1 }
     ensures end { result.1 ≤ end + result.0 }
 {
-    if is_null {
-        return (2, put(&[0], out, end));
-    }
-    (PAIR, put(&utf8_of_pair(&bytes[at..]), out, end))
+    // Computes the UTF-8 of a pair even if there is none, and chooses by `is_null` after that. A
+    // branch would be mispredicted if pairs and C0 80 alternate.
+    let pair = u32::from_le_bytes(utf8_of_pair(&bytes[at..]));
+    let (len, utf8, written) = if is_null {
+        (NULL, 0, NULL_UTF8)
+    } else {
+        (PAIR, pair, PAIR_UTF8)
+    };
+    put(&utf8.to_le_bytes(), out, end);
+    (len, end + written)
 }
 
 /// Writes `count` replacement characters, and returns their end. Each store writes ten, so bytes
