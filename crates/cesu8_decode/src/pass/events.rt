@@ -8,9 +8,9 @@ ghost use Rattle.std.specs.Prelude.{◌≡◌, ◌+◌, ◌*◌, ◌<◌, ◌≤
 ghost use Rattle.cesu8_text.specs.Text.{utf8};
 ghost use Rattle.cesu8_bytes.specs.Puts.{WritesAt};
 ghost use Rattle.cesu8_bytes.specs.declared.strictness.Strictness.TheVariants.{Strict};
-ghost use Rattle.cesu8_decode.specs.DecodedOffsets.{decoded, window_of, is_boundary_at, width_at};
+ghost use Rattle.cesu8_decode.specs.DecodedOffsets.{decoded, window_of, width_at};
 ghost use Rattle.cesu8_decode.specs.Decoding.{most_written};
-ghost use Rattle.cesu8_decode.specs.Masks.{IsWindow, is_null_at, is_pair_at};
+ghost use Rattle.cesu8_decode.specs.Masks.{HoldWindow, is_null_at, is_pair_at};
 
 mod dense_nulls;
 mod replaced;
@@ -60,10 +60,8 @@ pub fn write_events<F: Flavor, S: Reading>(
     out: &mut [u8],
     end: usize,
 ) -> usize
-    requires window { IsWindow F.flavor bytes.now at window }
-    requires boundary { is_boundary_at F.flavor (window_of bytes.now) at ≡ true }
+    requires window { HoldWindow F.flavor bytes.now at window }
     requires strict { S.which ≡ Strict → window.ill_formed ≡ 0 }
-    requires bytes { at + window.len + LANES ≤ length bytes.now }
     requires room { end + most_written S.which LANES + STORED_AFTER ≤ length out.old }
     ensures { WritesAt (decoded F.flavor (window_of bytes.now) at window.len)
         end out.old out.new result }
@@ -91,10 +89,8 @@ fn write_in_turn<F: Flavor, S: Reading>(
     out: &mut [u8],
     end: usize,
 ) -> usize
-    requires window { IsWindow F.flavor bytes.now at window }
-    requires boundary { is_boundary_at F.flavor (window_of bytes.now) at ≡ true }
+    requires window { HoldWindow F.flavor bytes.now at window }
     requires strict { S.which ≡ Strict → window.ill_formed ≡ 0 }
-    requires bytes { at + window.len + LANES ≤ length bytes.now }
     requires room { end + most_written S.which window.len + STORED_AFTER ≤ length out.old }
     ensures { WritesAt (decoded F.flavor (window_of bytes.now) at window.len)
         end out.old out.new result }
