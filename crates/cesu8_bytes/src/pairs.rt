@@ -28,16 +28,16 @@ pub fn is_pair(bytes: &[u8]) -> bool
     first_word(bytes) & 0x0000_C0F0_FFC0_F0FF == PAIR_BITS
 }
 
-/// Returns the UTF-8 of the character whose surrogate pair begins the bytes.
+/// Returns the UTF-8 of the character whose surrogate pair begins the bytes. If none begins them,
+/// the four bytes have no meaning.
 #[inline(always)]
 pub fn utf8_of_pair(bytes: &[u8]) -> [u8; PAIR_UTF8]
-    requires long { PAIR_READ ≤ length bytes.now }
-    requires pair { HasPair bytes.now }
+    requires { PAIR_READ ≤ length bytes.now }
     ensures { IsUtf8OfDigits (second_third_fifth_sixth bytes.now) result }
 {
     // Adds the plane offset 10000 to the character: one more in the last four bits of the second
-    // byte. That byte is below B0, so nothing is carried.
-    let word = first_word(bytes) + 0x100;
+    // byte. In a pair that byte is below B0, so nothing is carried.
+    let word = first_word(bytes).wrapping_add(0x100);
     // The leading bits of the four bytes, F0 80 80 80. Each term moves some digits into their
     // places.
     let utf8 = 0x8080_80F0

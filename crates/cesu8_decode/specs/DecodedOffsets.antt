@@ -89,17 +89,6 @@ unfoldable pub decoded_byte : (w0 w1 w2 w3 w4 w5 two_before before b : ℕ) → 
 decoded_byte w0 w1 w2 w3 w4 w5 two_before before b =
     written_for (goes_by w0 w1 b) (ill_formed_by w0 w1 w2 w3 w4 w5) (byte_by w1 w2 w3 w4 two_before before b)
 
--- Byte i + 5 of a window is dropped (`goes_at`), and the byte that is written if it is not
--- (`byte_at`).
-abbrev pub goes_at : Flavor → List ℕ → ℕ → Bool
-goes_at f window i =
-    goes_by (width_at f window (i + 5)) (width_at f window (i + 4)) (slice_index window (i + 5))
-
-abbrev pub byte_at : Flavor → List ℕ → ℕ → ℕ
-byte_at f window i =
-    byte_by (width_at f window (i + 4)) (width_at f window (i + 3)) (width_at f window (i + 2)) (width_at f window (i + 1))
-    (slice_index window (i + 3)) (slice_index window (i + 4)) (slice_index window (i + 5))
-
 -- What is written for byte i + 5 of a window.
 abbrev pub decoded_at : Flavor → List ℕ → ℕ → List ℕ
 decoded_at f window i =

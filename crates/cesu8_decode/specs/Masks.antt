@@ -1,6 +1,6 @@
 -- Masks of 64 bits: which characters begin at the offsets of a window, and which bytes are
 -- ill-formed.
-use Rattle.std.specs.Prelude.{◌≡◌, ℕ, ◌+◌, ◌*◌, ◌^◌, ◌%◌, ◌<◌, ◌≤◌, ◌&&◌, ◌==◌, nat_le, if◌then◌else◌, not, Bool, true, false, List, [], map, slice_index, slice_index_or}
+use Rattle.std.specs.Prelude.{◌≡◌, ℕ, ◌+◌, ◌*◌, ◌^◌, ◌%◌, ◌<◌, ◌≤◌, ◌&&◌, ◌==◌, nat_le, if◌then◌else◌, not, Bool, true, false, List, [], length, map, slice_index, slice_index_or}
 use Rattle.std.specs.Int.{bit_at}
 use Rattle.std.specs.List.{range_with_len}
 use Rattle.std.specs.Simd.Lanes.{mask_l}
@@ -77,6 +77,13 @@ pub record IsWindow (f : Flavor) (bytes : List ℕ) (at : ℕ) (window : Window)
   pub rest : (i : ℕ) → at + n ≤ i → i < at + window.len → (width_at f bytes i ≡ 0) × (is_ill_formed_at f (window_of bytes) i ≡ false)
   -- The window ends at a character boundary.
   pub boundary : is_boundary_at f (window_of bytes) (at + window.len) ≡ true
+
+-- A window of the bytes begins at offset `at`, which is a character boundary, and 64 bytes can be
+-- loaded after it.
+pub record HoldWindow (f : Flavor) (bytes : List ℕ) (at : ℕ) (window : Window) : Type 0 where
+  pub is_window : IsWindow f bytes at window
+  pub boundary : is_boundary_at f (window_of bytes) at ≡ true
+  pub after : at + window.len + 64 ≤ length bytes
 
 -- Row `ill_formed` is the shuffle that puts the replacement character in place of those of four
 -- bytes whose bit is set.

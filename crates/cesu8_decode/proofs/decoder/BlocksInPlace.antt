@@ -34,7 +34,7 @@ at_most_three goes ill_formed b = grind (arith, nat_tests, common_steps)
 
 -- What is written for n bytes is at most n bytes if none of them is ill-formed, and otherwise at
 -- most three for each.
-pub no_longer : (f : Flavor) (which : Strictness) (window : List ℕ) (at n : ℕ) →
+no_longer : (f : Flavor) (which : Strictness) (window : List ℕ) (at n : ℕ) →
     (which ≡ Strict → (i : ℕ) → at ≤ i → i < at + n → is_ill_formed_at f window i ≡ false) → length (decoded f window at n) ≤ most_written which n
 unfolding decoded decoded_byte
 no_longer f Strict window at zero fine = omega arith

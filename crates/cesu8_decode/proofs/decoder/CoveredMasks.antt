@@ -16,8 +16,8 @@ use Rattle.cesu8_decode.proofs.decoder.MaskBits.{or_bits, earlier_bits}
 pub record Forms (w : ℕ) (one null two three pair : Bool) : Type 0 where
   pub is_one : one ≡ true → w ≡ 1
   pub is_null : null ≡ true → w ≡ 2
-  pub is_two : two ≡ true → w ≡ 2
-  pub is_three : three ≡ true → w ≡ 3
+  is_two : two ≡ true → w ≡ 2
+  is_three : three ≡ true → w ≡ 3
   pub is_pair : pair ≡ true → w ≡ 6
 
 chain : (one null two three six : Bool) →
@@ -64,7 +64,7 @@ module _ (f : Flavor) (bytes : List ℕ) (at n : ℕ) where
   threes_by i = (first (is_three_at bytes) i || first (is_pair_at f bytes) i) || after 3 (first (is_pair_at f bytes)) i
 
   -- The starts of two bytes or more.
-  abbrev pub begins_by : ℕ → Bool
+  abbrev begins_by : ℕ → Bool
   begins_by i = (first (is_two_at bytes) i || first (is_null_at f bytes) i) || threes_by i
 
   -- The offsets that characters of two bytes or more cover.

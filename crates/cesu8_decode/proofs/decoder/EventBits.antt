@@ -3,8 +3,7 @@ use Rattle.std.proofs.Common.{◌≡◌, ◌≢◌, ℕ, zero, suc, ◌+◌, ◌
 use Rattle.std.specs.Int.{bit_at, bit_not, w64}
 use Rattle.std.specs.Int.Bits.{bit_and, bit_or}
 use Rattle.std.proofs.lemmas.Bool.{cases_lt, cases_eq}
-use Rattle.std.proofs.lemmas.Nat.{div-add-mod'}
-use Rattle.std.proofs.lemmas.Nat.{mod-pow-add, pow_pos, pow_below}
+use Rattle.std.proofs.lemmas.Nat.{div-add-mod', mod-pow-add, pow_pos, pow_below}
 use Rattle.std.proofs.lemmas.Nat.Bits.{bit_at-lt, bit_at_lowest, bit_at-suc, bit_at_above, bit_at_or, bit_at_not, bit_at_and, bit_at_ones_above, bit_at_cat_low, bit_at_cat_high}
 use Rattle.cesu8_decode.proofs.decoder.MaskBits.{bit_kept}
 
@@ -46,7 +45,7 @@ module _ (n k : ℕ) (lowest : IsLowest n k) where
   cleared = grind (arith, less, bit_at_cat_low, bit_at_ones_above, bit_at_and)
 
   -- n & (n - 1) leaves the other bits unchanged.
-  pub others_stay : (i : ℕ) → i ≢ k → bit_at (bit_and n (n - 1)) i ≡ bit_at n i
+  others_stay : (i : ℕ) → i ≢ k → bit_at (bit_and n (n - 1)) i ≡ bit_at n i
   others_stay i other =
       ⊎_elim (λ (low : i < k). bit_at_and n (n - 1) i ∙ omega (arith, lowest.below i low))
       (λ (high : k ≤ i).

@@ -25,7 +25,7 @@ use Rattle.cesu8_decode.proofs.chunks.Changed.{pair_width, pair_read, seen_null_
 -- ---- between events
 
 -- A byte at an offset is in the window five bytes later.
-pub byte_there : (bytes : List ℕ) (i : ℕ) → get_or (window_of bytes) (i + 5) 0 ≡ get_or bytes i 0
+byte_there : (bytes : List ℕ) (i : ℕ) → get_or (window_of bytes) (i + 5) 0 ≡ get_or bytes i 0
 byte_there bytes i = let offset : i + 5 ≡ 5 + i = omega arith in ap (λ p. get_or (window_of bytes) p 0) offset ∙ follows_zeros bytes i
 
 byte_after : (bytes : List ℕ) (i k : ℕ) → get_or (window_of bytes) (i + 5 + k) 0 ≡ get_or bytes (i + k) 0
@@ -139,7 +139,7 @@ module _ (f : Flavor) (bytes : List ℕ) where
   -- ---- boundaries
 
   -- No character crosses the start of another.
-  pub boundary_before : (i : ℕ) → i < length bytes → 0 < w (i + 5) → is_boundary_at f (window_of bytes) i ≡ true
+  boundary_before : (i : ℕ) → i < length bytes → 0 < w (i + 5) → is_boundary_at f (window_of bytes) i ≡ true
   boundary_before i inside some =
       boundary_where f (window_of bytes) i (λ s small.
       ⊎_elim (λ (early : i + s < 5). omega (arith, zero_width f (window_of bytes) (i + s) (zeros_before bytes (i + s) early)))
@@ -250,7 +250,7 @@ module _ (f : Flavor) (bytes : List ℕ) where
 
 -- ---- replacement characters
 
-pub replacements_more : (m n : ℕ) → utf8 (replicate (m + n) 0xFFFD) ≡ utf8 (replicate m 0xFFFD) ++ utf8 (replicate n 0xFFFD)
+replacements_more : (m n : ℕ) → utf8 (replicate (m + n) 0xFFFD) ≡ utf8 (replicate m 0xFFFD) ++ utf8 (replicate n 0xFFFD)
 unfolding utf8_of
 replacements_more zero n = ap (λ k. utf8 (replicate k 0xFFFD)) (zero-add n)
 replacements_more (suc m) n =
@@ -263,7 +263,7 @@ length_replacements zero = refl
 length_replacements (suc n) = omega (arith, length_replacements n)
 
 -- Of the bytes that one store writes, the first 3n are n replacement characters.
-pub first_replacements : (n : ℕ) → n ≤ 10 → take (3 * n) (utf8 (replicate 10 0xFFFD) ++ 0xEF ∷ 0xBF ∷ []) ≡ utf8 (replicate n 0xFFFD)
+first_replacements : (n : ℕ) → n ≤ 10 → take (3 * n) (utf8 (replicate 10 0xFFFD) ++ 0xEF ∷ 0xBF ∷ []) ≡ utf8 (replicate n 0xFFFD)
 first_replacements n few =
     let some = utf8 (replicate n 0xFFFD) in
     let others = utf8 (replicate (10 - n) 0xFFFD) in

@@ -1,32 +1,27 @@
 -- What shuffles pack for a window, byte by byte.
-use Rattle.std.proofs.Common.{◌≡◌, ◌≢◌, ℕ, zero, suc, ◌+◌, ◌-◌, ◌*◌, ◌/◌, ◌%◌, ◌^◌, ◌<◌, ◌≤◌, ⊎_elim, Bool, true, false, true≢false, cond, eqb, List, [], ◌∷◌, ◌++◌, refl, sym, ap, ◌∙◌, subst, arith, length, take, get_or, map, replicate, length-append, append_assoc, add-zero, zero-add, suc-add}
+use Rattle.std.proofs.Common.{◌≡◌, ◌≢◌, ℕ, zero, suc, ◌+◌, ◌-◌, ◌*◌, ◌/◌, ◌%◌, ◌^◌, ◌<◌, ◌≤◌, ⊎_elim, Bool, true, false, true≢false, cond, eqb, List, [], ◌∷◌, ◌++◌, refl, sym, ap, ◌∙◌, subst, arith, length, take, get_or, append-nil, map, replicate, length-append, append_assoc, add-zero, zero-add, suc-add}
 use Rattle.std.specs.Int.{bit_at}
 use Rattle.std.specs.List.{flat_map, range_with_len}
 use Rattle.std.specs.Simd.Lanes.{mask_l}
-use Rattle.std.proofs.lemmas.Bool.{cases_lt}
+use Rattle.std.proofs.lemmas.Bool.{cases_lt, ne_eqb, cases_eq}
 use Rattle.std.proofs.lemmas.Bool.Decides.{nat_tests}
 use Rattle.std.proofs.lemmas.List.{get_or_past}
-use Rattle.std.proofs.lemmas.List.FromFn.{get_or-map-range_with_len, length-map-range_with_len}
-use Rattle.std.proofs.lemmas.Nat.Bits.{bit_at-lt, bit_at_above, same_from_bits}
-use Rattle.std.proofs.lemmas.Simd.{bit_mask_l}
+use Rattle.std.proofs.lemmas.List.FromFn.{get_or-map-range_with_len, length-map-range_with_len, take-map-range_with_len}
+use Rattle.std.proofs.lemmas.Nat.Bits.{bit_at-lt, bit_at_above, same_from_bits, bit_at-zero}
+use Rattle.std.proofs.lemmas.Simd.{bit_mask_l, map-map}
 use lib.Lanes.{sel_l, chunk}
 use Rattle.std.proofs.Math.Seq.{take-append_seam}
-use Rattle.std.proofs.lemmas.Simd.{map-map}
-use Rattle.std.proofs.lemmas.List.FromFn.{take-map-range_with_len}
 use Rattle.cesu8_bytes.specs.Puts.{WritesAt}
 use Rattle.cesu8_bytes.proofs.lists.Stored.{first_written, written_behind}
 use Rattle.cesu8_bytes.proofs.vectors.Loads.{loaded}
-use Rattle.std.proofs.lemmas.Bool.{ne_eqb, cases_eq}
-use Rattle.std.proofs.lemmas.Nat.Bits.{bit_at-zero}
 use Rattle.std.proofs.Math.Nat.{div-le_self}
 use Rattle.cesu8_text.specs.Encoding.{Flavor}
 use Rattle.cesu8_decode.specs.DecodedOffsets.{window_of, is_boundary_at, is_ill_formed_at, decoded_at, decoded}
-use Rattle.cesu8_decode.specs.Masks.{IsWindow, is_null_at, is_pair_at}
+use Rattle.cesu8_decode.specs.Masks.{HoldWindow, IsWindow, is_null_at, is_pair_at}
 use Rattle.cesu8_decode.specs.declared.lanes.windows.Window.{Window}
 use Rattle.cesu8_decode.proofs.by_offset.WindowOffsets.{decoded_split}
 use Rattle.cesu8_decode.proofs.chunks.Changed.{null_lead}
-use Rattle.cesu8_decode.proofs.decoder.EventBits.{unset}
-use Rattle.cesu8_decode.proofs.decoder.EventBits.{shifted_first, shifted_next}
+use Rattle.cesu8_decode.proofs.decoder.EventBits.{unset, shifted_first, shifted_next}
 use Rattle.cesu8_decode.proofs.decoder.MaskBits.{rest_bit, marks_fit}
 use Rattle.cesu8_decode.proofs.decoder.WindowEnds.{none_changes, null_set, ill_set, pair_unset, null_unset, ill_unset, none_in_window, ends_within, none_inside}
 use Rattle.cesu8_decode.proofs.decoder.EventsDecoded.{plain_at, no_lone_lead, null_wide, null_at_decoded, replaced_at}
@@ -35,14 +30,14 @@ use Rattle.cesu8_bytes.specs.Packing.{written_for, written}
 -- ---- ranges
 
 -- What m + n offsets give is what the first m give, and then the other n.
-pub range_split : (h : ℕ → List ℕ) (i m n : ℕ) → flat_map h (range_with_len i (m + n)) ≡ flat_map h (range_with_len i m) ++ flat_map h (range_with_len (i + m) n)
+range_split : (h : ℕ → List ℕ) (i m n : ℕ) → flat_map h (range_with_len i (m + n)) ≡ flat_map h (range_with_len i m) ++ flat_map h (range_with_len (i + m) n)
 range_split h i zero n = rw (add-zero i, zero-add n) refl
 range_split h i (suc m) n =
     let offset : i + 1 + m ≡ i + suc m = omega arith in
     rw (suc-add m n, range_split h (i + 1) m n, offset) (sym (append_assoc (h i) _ _))
 
 -- Two ranges give the same if their offsets do.
-pub range_same : (g h : ℕ → List ℕ) (a b n : ℕ) → ((k : ℕ) → k < n → g (a + k) ≡ h (b + k)) → flat_map g (range_with_len a n) ≡ flat_map h (range_with_len b n)
+range_same : (g h : ℕ → List ℕ) (a b n : ℕ) → ((k : ℕ) → k < n → g (a + k) ≡ h (b + k)) → flat_map g (range_with_len a n) ≡ flat_map h (range_with_len b n)
 range_same g h a b zero same = refl
 range_same g h a b (suc n) same =
     let first = ap g (sym (add-zero a)) ∙ same 0 (omega arith) ∙ ap h (add-zero b) in
@@ -53,37 +48,17 @@ range_same g h a b (suc n) same =
     λ k. first k ++ rest k
 
 -- If each offset gives one byte, n offsets give n bytes.
-pub range_length : (h : ℕ → List ℕ) (a n : ℕ) → ((i : ℕ) → a ≤ i → i < a + n → length (h i) ≡ 1) → length (flat_map h (range_with_len a n)) ≡ n
+range_length : (h : ℕ → List ℕ) (a n : ℕ) → ((i : ℕ) → a ≤ i → i < a + n → length (h i) ≡ 1) → length (flat_map h (range_with_len a n)) ≡ n
 range_length h a zero one = refl
 range_length h a (suc n) one = grind (arith, nat_tests, length-append, range_length h (a + 1) n (λ i low inside. one i (omega arith) (omega arith)))
 
--- If each offset gives at most one byte, n offsets give at most n bytes.
-pub range_few : (h : ℕ → List ℕ) (a n : ℕ) → ((i : ℕ) → length (h i) ≤ 1) → length (flat_map h (range_with_len a n)) ≤ n
-range_few h a zero few = omega arith
-range_few h a (suc n) few = omega (arith, length-append (h a) (flat_map h (range_with_len (a + 1) n)), few a, range_few h (a + 1) n few)
-
--- If each of the last offsets gives one byte, as many bytes can be cut from the end.
-cut_back : (h : ℕ → List ℕ) (n m end last : ℕ) (old new : List ℕ) → n ≤ m → ((i : ℕ) → n ≤ i → i < m → length (h i) ≡ 1) →
-    WritesAt (flat_map h (range_with_len 0 m)) end old new last →
-    (m - n ≤ last) × (end ≤ length old → WritesAt (flat_map h (range_with_len 0 n)) end old new (last - (m - n)))
-cut_back h n m end last old new covered one text =
-    let first = flat_map h (range_with_len 0 n) in
-    let others = flat_map h (range_with_len (0 + n) (m - n)) in
-    let all : n + (m - n) ≡ m = omega arith in
-    let split : flat_map h (range_with_len 0 m) ≡ first ++ others =
-    ap (λ k. flat_map h (range_with_len 0 k)) (sym all) ∙ range_split h 0 n (m - n) in
-    let few = range_length h (0 + n) (m - n) (λ i low inside. one i (omega arith) (omega arith)) in
-    let both = length-append first others in
-    let lengths : end + length first + (m - n) ≡ last = omega (arith, text.end, ap length split, both, few) in (
-      omega (arith, lengths),
-      λ room.
-          let cut = first_written (length first) end last (first ++ others) old new (omega (arith, both)) room (subst (λ bs. WritesAt bs end old new last) split text) in
-          let is_end : end + length first ≡ last - (m - n) = omega (arith, lengths) in
-          subst (λ k. WritesAt first end old new k) is_end (subst (λ bs. WritesAt bs end old new (end + length first)) (take-append_seam first others) cut),
-    )
+-- If no offset gives more than `most` bytes, n offsets give at most n times as many.
+range_most : (h : ℕ → List ℕ) (most a n : ℕ) → ((i : ℕ) → length (h i) ≤ most) → length (flat_map h (range_with_len a n)) ≤ most * n
+range_most h most a zero each = omega arith
+range_most h most a (suc n) each = omega (arith, length-append (h a) (flat_map h (range_with_len (a + 1) n)), each a, range_most h most (a + 1) n each)
 
 -- What is written for lanes, by their offsets.
-pub written_on_range : (g d : ℕ → Bool) (b : ℕ → ℕ) (a n : ℕ) →
+written_on_range : (g d : ℕ → Bool) (b : ℕ → ℕ) (a n : ℕ) →
     written (map g (range_with_len a n)) (map d (range_with_len a n)) (map b (range_with_len a n)) ≡ flat_map (λ i. written_for (g i) (d i) (b i)) (range_with_len a n)
 written_on_range g d b a zero = refl
 written_on_range g d b a (suc n) = (λ k. written_for (g a) (d a) (b a) ++ written_on_range g d b (a + 1) n k)
@@ -114,19 +89,6 @@ pub zeroed_of : (p : ℕ → Bool) (size : ℕ) (xs : List ℕ) → length xs �
 zeroed_of p size [] long = refl
 zeroed_of p zero (x ∷ xs) long = absurd (omega arith)
 zeroed_of p (suc size) (x ∷ xs) long = ap (λ l. cond (p x) 0 x ∷ l) (zeroed_of p size xs (omega arith))
-
-few_for : (t : Bool) (b : ℕ) → length (written_for t false b) ≤ 1
-few_for true b = omega arith
-few_for false b = omega arith
-
-most_for : (t : Bool) (b : ℕ) → length (written_for false t b) ≤ 3
-most_for true b = omega arith
-most_for false b = omega arith
-
--- If each offset gives at most three bytes, n offsets give at most 3n bytes.
-range_most : (h : ℕ → List ℕ) (a n : ℕ) → ((i : ℕ) → length (h i) ≤ 3) → length (flat_map h (range_with_len a n)) ≤ 3 * n
-range_most h a zero few = omega arith
-range_most h a (suc n) few = omega (arith, length-append (h a) (flat_map h (range_with_len (a + 1) n)), few a, range_most h (a + 1) n few)
 
 -- ---- the next lanes
 
@@ -162,6 +124,64 @@ module _ (pack : Bool → ℕ → List ℕ) (word : ℕ) (fits : word < 2 ^ 64) 
       (written_behind (flat_map packs (range_with_len 0 k)) (flat_map packs (range_with_len k size)) old mid new end middle last before
       (subst (λ bs. WritesAt bs middle mid new last) are store))
 
+-- ---- windows that are packed
+
+-- A loop stores `packed i` for each offset i of 64. For those of the window this is what decoding
+-- writes, and for each offset after it one byte.
+pub record Packs (f : Flavor) (bytes : List ℕ) (at : ℕ) (window : Window) (packed : ℕ → List ℕ) (bound : ℕ) : Type 0 where
+  pub text : flat_map packed (range_with_len 0 window.len) ≡ decoded f (window_of bytes) at window.len
+  pub after : (i : ℕ) → window.len ≤ i → i < 64 → length (packed i) ≡ 1
+  pub most : (i : ℕ) → length (packed i) ≤ bound
+
+-- The first n offsets are stored, so many at a time that `size` divides n.
+pub record AreStored (packed : ℕ → List ℕ) (size n start : ℕ) (old new : List ℕ) (end : ℕ) : Type 0 where
+  pub whole : n % size ≡ 0
+  pub within : n ≤ 64
+  pub text : WritesAt (flat_map packed (range_with_len 0 n)) start old new end
+
+pub none_stored : (packed : ℕ → List ℕ) (size start : ℕ) (old : List ℕ) → 0 % size ≡ 0 → AreStored packed size 0 start old old start
+none_stored packed size start old whole = record {
+  whole = whole;
+  within = omega arith;
+  text = record { bytes = sym (append-nil (take start old)); end = omega arith; len = refl };
+}
+
+module _ {f : Flavor} {bytes : List ℕ} {at : ℕ} {window : Window} {packed : ℕ → List ℕ} {bound : ℕ} (packs : Packs f bytes at window packed bound) where
+  pub stored_most : (n : ℕ) → length (flat_map packed (range_with_len 0 n)) ≤ bound * n
+  stored_most n = range_most packed bound 0 n packs.most
+
+  module _ {size n start end : ℕ} {old new : List ℕ} (stored : AreStored packed size n start old new end) (covered : window.len ≤ n) where
+    first : List ℕ
+    first = flat_map packed (range_with_len 0 window.len)
+
+    others : List ℕ
+    others = flat_map packed (range_with_len (0 + window.len) (n - window.len))
+
+    split : flat_map packed (range_with_len 0 n) ≡ first ++ others
+    unfolding first others
+    split =
+        let all : window.len + (n - window.len) ≡ n = omega arith in
+        ap (λ k. flat_map packed (range_with_len 0 k)) (sym all) ∙ range_split packed 0 window.len (n - window.len)
+
+    lengths : start + length first + (n - window.len) ≡ end
+    unfolding others
+    lengths =
+        let few = range_length packed (0 + window.len) (n - window.len) (λ i low inside. packs.after i (omega arith) (omega (arith, stored.within))) in
+        omega (arith, stored.text.end, ap length split, length-append first others, few)
+
+    -- At least as many bytes are stored as there are offsets after the window.
+    pub stored_after : n - window.len ≤ end
+    stored_after = omega (arith, lengths)
+
+    -- What is stored, without the bytes after the window, is what decoding writes for the window.
+    pub stored_text : start ≤ length old → WritesAt (decoded f (window_of bytes) at window.len) start old new (end - (n - window.len))
+    unfolding first
+    stored_text room =
+        let cut = first_written (length first) start end (first ++ others) old new (omega (arith, length-append first others)) room (subst (λ bs. WritesAt bs start old new end) split stored.text) in
+        let is_end : start + length first ≡ end - (n - window.len) = omega (arith, lengths) in
+        subst (λ bs. WritesAt bs start old new (end - (n - window.len))) (take-append_seam first others ∙ packs.text)
+        (subst (λ k. WritesAt (take (length first) (first ++ others)) start old new k) is_end cut)
+
 -- ---- C0 80
 
 -- What is packed for an offset, by the mask of C0 80.
@@ -169,8 +189,10 @@ abbrev pub null_packed : (bytes : List ℕ) (at nulls : ℕ) → ℕ → List �
 null_packed bytes at nulls i =
     written_for (eqb (bit_at (nulls * 2 % 2 ^ 64) i) 1) false (cond (eqb (get_or bytes (at + i) 0) 0xC0) 0 (get_or bytes (at + i) 0))
 
-module _ (f : Flavor) (bytes : List ℕ) (at : ℕ) (window : Window) (is : IsWindow f bytes at window) (long : at + window.len + 64 ≤ length bytes)
-    (no_pairs : window.pairs ≡ 0) (none : window.ill_formed ≡ 0) (boundary : is_boundary_at f (window_of bytes) at ≡ true) where
+module _ {f : Flavor} {bytes : List ℕ} {at : ℕ} {window : Window} (holds : HoldWindow f bytes at window) (no_pairs : window.pairs ≡ 0) (none : window.ill_formed ≡ 0) where
+  abbrev is : IsWindow f bytes at window
+  is = holds.is_window
+
   abbrev left_out : ℕ
   left_out = window.nulls * 2 % 2 ^ 64
 
@@ -212,12 +234,12 @@ module _ (f : Flavor) (bytes : List ℕ) (at : ℕ) (window : Window) (is : IsWi
   packed_from (suc m) (suc r) i few there clear before =
       ⊎_elim (λ (set : bit_at window.nulls i ≡ 1).
       let begins = null_set is i set in
-      let fits : at + i + 2 ≤ length bytes = omega (arith, long, begins.0, is.len) in
+      let fits : at + i + 2 ≤ length bytes = omega (arith, holds.after, begins.0, is.len) in
       let wide = null_wide f bytes (at + i) fits begins.1 in
       let within = ends_within is i 2 (omega arith) wide begins.0 in
       let next : bit_at window.nulls (i + 1) ≡ 0 = unset window.nulls (i + 1) (λ set.
       true≢false (sym (null_set is (i + 1) set).1
-      ∙ (none_changes is (at + (i + 1)) (none_inside is i 2 (omega arith) wide begins.0 long (i + 1) (omega arith) (omega arith))).1)) in
+      ∙ (none_changes is (at + (i + 1)) (none_inside is i 2 (omega arith) wide begins.0 holds.after (i + 1) (omega arith) (omega arith))).1)) in
       let all : 2 + (r - 1) ≡ suc r = omega arith in
       let after : at + (i + 2) ≡ at + i + 2 = omega arith in
       let second : i + 1 + 1 ≡ i + 2 = omega arith in
@@ -237,8 +259,8 @@ module _ (f : Flavor) (bytes : List ℕ) (at : ℕ) (window : Window) (is : IsWi
       let none_here : bit_at window.nulls i ≡ 0 = unset window.nulls i other in
       let null = null_none i (omega arith) none_here in
       let fine = fine_at (at + i) (omega arith) (omega arith) in
-      let lone = no_lone_lead f bytes at window.len boundary pair_none (at + i) (omega arith) (omega arith) null fine in
-      let plain = plain_at f bytes at window.len boundary pair_none (at + i) (omega arith) (omega arith) null
+      let lone = no_lone_lead f bytes at window.len holds.boundary pair_none (at + i) (omega arith) (omega arith) null fine in
+      let plain = plain_at f bytes at window.len holds.boundary pair_none (at + i) (omega arith) (omega arith) null
       (λ j low there. let here : j ≡ at + (j - at) = omega arith in
       ap (is_null_at f bytes) here ∙ before (j - at) (omega arith)) fine in
       let first = stays_packed i clear lone ∙ sym plain in
@@ -250,12 +272,6 @@ module _ (f : Flavor) (bytes : List ℕ) (at : ℕ) (window : Window) (is : IsWi
       (λ k. first k ++ rest k))
       (cases_eq (bit_at window.nulls i) 1)
 
-  -- What is packed for the window is what decoding writes for it.
-  pub packed_all : flat_map packed (range_with_len 0 window.len) ≡ decoded f (window_of bytes) at window.len
-  packed_all =
-      packed_from window.len window.len 0 (omega arith) (omega arith) (shifted_first window.nulls) (λ j never. absurd (omega arith))
-      ∙ ap (λ k. decoded f (window_of bytes) k window.len) (add-zero at)
-
   -- For each offset after the window one byte is packed.
   one_after : (i : ℕ) → window.len ≤ i → i < 64 → length (packed i) ≡ 1
   one_after i past small =
@@ -266,7 +282,7 @@ module _ (f : Flavor) (bytes : List ℕ) (at : ℕ) (window : Window) (is : IsWi
       ap (bit_at left_out) there
       ∙ next_bit (i - 1) (omega arith) (unset window.nulls (i - 1) (λ set.
       let begins = null_set is (i - 1) set in
-      let fits : at + (i - 1) + 2 ≤ length bytes = omega (arith, long, begins.0, is.len) in
+      let fits : at + (i - 1) + 2 ≤ length bytes = omega (arith, holds.after, begins.0, is.len) in
       omega (arith, later, past, ends_within is (i - 1) 2 (omega arith) (null_wide f bytes (at + (i - 1)) fits begins.1) begins.0))))
       (cases_eq i 0) in
       ap length (written_clear clear)
@@ -274,31 +290,33 @@ module _ (f : Flavor) (bytes : List ℕ) (at : ℕ) (window : Window) (is : IsWi
       written_clear : bit_at left_out i ≡ 0 → packed i ≡ cond (eqb (byte i) 0xC0) 0 (byte i) ∷ []
       written_clear clear = rw clear refl
 
-  module _ (m end last : ℕ) (old new : List ℕ) (covered : window.len ≤ m) (small : m ≤ 64) (text : WritesAt (flat_map packed (range_with_len 0 m)) end old new last) where
-    -- At least as many bytes are stored as there are offsets after the window.
-    pub after_window : m - window.len ≤ last
-    after_window = (cut_back packed window.len m end last old new covered (λ i past inside. one_after i past (omega arith)) text).0
+  packed_most : (t : Bool) (b : ℕ) → length (written_for t false b) ≤ 1
+  packed_most true b = omega arith
+  packed_most false b = omega arith
 
-    -- What is stored, without the bytes after the window, is what decoding writes for the window.
-    pub window_written : end ≤ length old → WritesAt (decoded f (window_of bytes) at window.len) end old new (last - (m - window.len))
-    window_written room =
-        subst (λ bs. WritesAt bs end old new (last - (m - window.len))) packed_all
-        ((cut_back packed window.len m end last old new covered (λ i past inside. one_after i past (omega arith)) text).1 room)
+  pub nulls_packed : Packs f bytes at window packed 1
+  nulls_packed = record {
+    text = packed_from window.len window.len 0 (omega arith) (omega arith) (shifted_first window.nulls) (λ j never. absurd (omega arith))
+        ∙ ap (λ k. decoded f (window_of bytes) k window.len) (add-zero at);
+    after = one_after;
+    most = λ i. packed_most (eqb (bit_at left_out i) 1) (cond (eqb (byte i) 0xC0) 0 (byte i));
+  }
 
   -- The next block is stored after the blocks before it.
-  pub block_written : (k end middle last : ℕ) (block old mid new : List ℕ) → k + 32 ≤ 64 → block ≡ map (λ b. cond (eqb b 0xC0) 0 b) (chunk (at + k) 32 bytes) →
-      WritesAt (flat_map packed (range_with_len 0 k)) end old mid middle →
-      ((tests : List Bool) → 32 ≤ length tests → left_out / 2 ^ k ≡ mask_l tests → WritesAt (written (take 32 tests) (replicate 32 false) block) middle mid new last) →
-      WritesAt (flat_map packed (range_with_len 0 (k + 32))) end old new last
-  block_written k end middle last block old mid new small block_is before stored =
+  pub block_stored : (n start end last : ℕ) (block old mid new : List ℕ) → n + 32 ≤ 64 → block ≡ map (λ b. cond (eqb b 0xC0) 0 b) (chunk (at + n) 32 bytes) →
+      AreStored packed 32 n start old mid end →
+      ((tests : List Bool) → 32 ≤ length tests → left_out / 2 ^ n ≡ mask_l tests → WritesAt (written (take 32 tests) (replicate 32 false) block) end mid new last) →
+      AreStored packed 32 (n + 32) start old new last
+  block_stored n start end last block old mid new within block_is before stored =
       let zeroed : ℕ → ℕ = λ b. cond (eqb b 0xC0) 0 b in
-      next_written (λ t b. written_for t false (zeroed b)) left_out (omega arith) bytes at 32 (omega arith) (λ tests bs. written tests (replicate 32 false) (map zeroed bs))
-      (λ t z. ap (written (map t (range_with_len 0 32)) (replicate 32 false)) (map-map zeroed z (range_with_len 0 32)) ∙ written_on_range t (λ _. false) (λ i. zeroed (z i)) 0 32)
-      k end middle last old mid new (omega (arith, long)) before
-      (λ tests many is. subst (λ bs. WritesAt (written (take 32 tests) (replicate 32 false) bs) middle mid new last) block_is (stored tests many is))
-
-  pub few_packed : (n : ℕ) → length (flat_map packed (range_with_len 0 n)) ≤ n
-  few_packed n = range_few packed 0 n (λ i. few_for (eqb (bit_at left_out i) 1) (cond (eqb (byte i) 0xC0) 0 (byte i)))
+      record {
+        whole = omega (arith, before.whole);
+        within = within;
+        text = next_written (λ t b. written_for t false (zeroed b)) left_out (omega arith) bytes at 32 (omega arith) (λ tests bs. written tests (replicate 32 false) (map zeroed bs))
+            (λ t z. ap (written (map t (range_with_len 0 32)) (replicate 32 false)) (map-map zeroed z (range_with_len 0 32)) ∙ written_on_range t (λ _. false) (λ i. zeroed (z i)) 0 32)
+            n start end last old mid new (omega (arith, holds.after)) before.text
+            (λ tests many is. subst (λ bs. WritesAt (written (take 32 tests) (replicate 32 false) bs) end mid new last) block_is (stored tests many is));
+      }
 
 -- ---- replacement characters
 
@@ -306,8 +324,7 @@ module _ (f : Flavor) (bytes : List ℕ) (at : ℕ) (window : Window) (is : IsWi
 abbrev pub replaced : (bytes : List ℕ) (at ill : ℕ) → ℕ → List ℕ
 replaced bytes at ill i = written_for false (eqb (bit_at ill i) 1) (get_or bytes (at + i) 0)
 
-module _ (f : Flavor) (bytes : List ℕ) (at : ℕ) (window : Window) (is : IsWindow f bytes at window) (long : at + window.len + 64 ≤ length bytes)
-    (no_pairs : window.pairs ≡ 0) (no_nulls : window.nulls ≡ 0) (boundary : is_boundary_at f (window_of bytes) at ≡ true) where
+module _ {f : Flavor} {bytes : List ℕ} {at : ℕ} {window : Window} (holds : HoldWindow f bytes at window) (no_pairs : window.pairs ≡ 0) (no_nulls : window.nulls ≡ 0) where
   abbrev stored : ℕ → List ℕ
   stored = replaced bytes at window.ill_formed
 
@@ -322,52 +339,47 @@ module _ (f : Flavor) (bytes : List ℕ) (at : ℕ) (window : Window) (is : IsWi
   stored_at : (i : ℕ) → i < window.len → stored i ≡ decoded_at f (window_of bytes) (at + i)
   stored_at i inside =
       ⊎_elim (λ (set : bit_at window.ill_formed i ≡ 1).
-      replaced_one i set ∙ replaced_at f bytes (at + i) (ill_set is i set).1)
+      replaced_one i set ∙ replaced_at f bytes (at + i) (ill_set holds.is_window i set).1)
       (λ (other : ¬ (bit_at window.ill_formed i ≡ 1)).
       let clear = unset window.ill_formed i other in
       let there : at + i - at ≡ i = omega arith in
       let unset_in = λ (mask : ℕ) (none : mask ≡ 0) (i : ℕ). ap (λ m. bit_at m (i - at)) none ∙ bit_at-zero (i - at) in
-      let nullless = λ (i : ℕ) (low : at ≤ i) (inside : i < at + window.len). null_unset is i low inside (unset_in window.nulls no_nulls i) in
+      let nullless = λ (i : ℕ) (low : at ≤ i) (inside : i < at + window.len). null_unset holds.is_window i low inside (unset_in window.nulls no_nulls i) in
       kept_one i clear
-      ∙ sym (plain_at f bytes at window.len boundary (λ i low inside. pair_unset is i low inside (unset_in window.pairs no_pairs i)) (at + i) (omega arith) (omega arith)
+      ∙ sym (plain_at f bytes at window.len holds.boundary (λ i low inside. pair_unset holds.is_window i low inside (unset_in window.pairs no_pairs i)) (at + i) (omega arith) (omega arith)
       (nullless (at + i) (omega arith) (omega arith)) (λ j low there. nullless j low (omega arith))
-      (ill_unset is (at + i) (omega arith) (omega arith) (ap (bit_at window.ill_formed) there ∙ clear))))
+      (ill_unset holds.is_window (at + i) (omega arith) (omega arith) (ap (bit_at window.ill_formed) there ∙ clear))))
       (cases_eq (bit_at window.ill_formed i) 1)
-
-  stored_all : flat_map stored (range_with_len 0 window.len) ≡ decoded f (window_of bytes) at window.len
-  unfolding decoded
-  stored_all =
-      range_same stored (decoded_at f (window_of bytes)) 0 at window.len (λ k small.
-      ap stored (zero-add k) ∙ stored_at k small)
 
   one_stored : (i : ℕ) → window.len ≤ i → length (stored i) ≡ 1
   one_stored i past =
       ap length (kept_one i (unset window.ill_formed i (λ set.
-      omega (arith, past, is.len, (ill_set is i set).0))))
+      omega (arith, past, holds.is_window.len, (ill_set holds.is_window i set).0))))
 
-  module _ (m end last : ℕ) (old new : List ℕ) (covered : window.len ≤ m) (text : WritesAt (flat_map stored (range_with_len 0 m)) end old new last) where
-    -- At least as many bytes are stored as there are offsets after the window.
-    pub replaced_after : m - window.len ≤ last
-    replaced_after = (cut_back stored window.len m end last old new covered (λ i past inside. one_stored i past) text).0
+  stored_most_of : (t : Bool) (b : ℕ) → length (written_for false t b) ≤ 3
+  stored_most_of true b = omega arith
+  stored_most_of false b = omega arith
 
-    -- What is stored, without the bytes after the window, is what decoding writes for the window.
-    pub replaced_written : end ≤ length old → WritesAt (decoded f (window_of bytes) at window.len) end old new (last - (m - window.len))
-    replaced_written room =
-        subst (λ bs. WritesAt bs end old new (last - (m - window.len))) stored_all
-        ((cut_back stored window.len m end last old new covered (λ i past inside. one_stored i past) text).1 room)
-
-  ill_fits : window.ill_formed < 2 ^ 64
-  ill_fits = marks_fit (is_ill_formed_at f (window_of bytes)) at is.n is.few is.ill_formed
+  pub replaced_packed : Packs f bytes at window stored 3
+  unfolding decoded
+  replaced_packed = record {
+    text = range_same stored (decoded_at f (window_of bytes)) 0 at window.len (λ k small.
+        ap stored (zero-add k) ∙ stored_at k small);
+    after = λ i past small. one_stored i past;
+    most = λ i. stored_most_of (eqb (bit_at window.ill_formed i) 1) (get_or bytes (at + i) 0);
+  }
 
   -- The next sixteen bytes are stored after those before them.
-  pub half_written : (k end middle last : ℕ) (half old mid new : List ℕ) → k + 16 ≤ 64 → half ≡ chunk (at + k) 16 bytes →
-      WritesAt (flat_map stored (range_with_len 0 k)) end old mid middle →
-      ((tests : List Bool) → 16 ≤ length tests → window.ill_formed / 2 ^ k ≡ mask_l tests → WritesAt (written (replicate 16 false) (take 16 tests) half) middle mid new last) →
-      WritesAt (flat_map stored (range_with_len 0 (k + 16))) end old new last
-  half_written k end middle last half old mid new small half_is before put =
-      next_written (λ t b. written_for false t b) window.ill_formed ill_fits bytes at 16 (omega arith) (λ tests bs. written (replicate 16 false) tests bs)
-      (λ t z. written_on_range (λ _. false) t z 0 16) k end middle last old mid new (omega (arith, long)) before
-      (λ tests many is. subst (λ bs. WritesAt (written (replicate 16 false) (take 16 tests) bs) middle mid new last) half_is (put tests many is))
-
-  pub few_replaced : (n : ℕ) → length (flat_map stored (range_with_len 0 n)) ≤ 3 * n
-  few_replaced n = range_most stored 0 n (λ i. most_for (eqb (bit_at window.ill_formed i) 1) (get_or bytes (at + i) 0))
+  pub half_stored : (n start end last : ℕ) (half old mid new : List ℕ) → n + 16 ≤ 64 → half ≡ chunk (at + n) 16 bytes →
+      AreStored stored 16 n start old mid end →
+      ((tests : List Bool) → 16 ≤ length tests → window.ill_formed / 2 ^ n ≡ mask_l tests → WritesAt (written (replicate 16 false) (take 16 tests) half) end mid new last) →
+      AreStored stored 16 (n + 16) start old new last
+  half_stored n start end last half old mid new within half_is before put =
+      let fits = marks_fit (is_ill_formed_at f (window_of bytes)) at holds.is_window.n holds.is_window.few holds.is_window.ill_formed in
+      record {
+        whole = omega (arith, before.whole);
+        within = within;
+        text = next_written (λ t b. written_for false t b) window.ill_formed fits bytes at 16 (omega arith) (λ tests bs. written (replicate 16 false) tests bs)
+            (λ t z. written_on_range (λ _. false) t z 0 16) n start end last old mid new (omega (arith, holds.after)) before.text
+            (λ tests many is. subst (λ bs. WritesAt (written (replicate 16 false) (take 16 tests) bs) end mid new last) half_is (put tests many is));
+      }

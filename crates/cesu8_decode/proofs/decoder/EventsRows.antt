@@ -21,7 +21,7 @@ same_list_is (x ∷ xs) (y ∷ ys) e =
     let parts = and_parts (eqb x y) (same_list xs ys) e in
     (λ i. eqb-true x y parts.0 i ∷ same_list_is xs ys parts.1 i)
 
-abbrev pub kept_by : ℕ → List ℕ
+abbrev kept_by : ℕ → List ℕ
 kept_by set = kept_of 0 set 0 4
 
 -- Each row of the table is the shuffle for its number.
@@ -44,7 +44,7 @@ module _ (row : List ℕ) (set : ℕ) (small : set < 0x10) (row_is : row ≡ shu
   four_written = row_written 4 0 set 12 row row_is (few_of_four set (omega arith)) (omega arith)
 
 -- The lanes hold four bytes, and then a replacement character.
-abbrev pub HasFour : (lanes four : List ℕ) → Type 0
+abbrev HasFour : (lanes four : List ℕ) → Type 0
 HasFour lanes four = (chunk 0 4 lanes ≡ four) × (chunk 4 3 lanes ≡ 0xEF ∷ 0xBF ∷ 0xBD ∷ [])
 
 kept_is : (lanes four : List ℕ) (set : ℕ) (flags : List Bool) → HasFour lanes four → length flags ≡ 4 → set ≡ mask_l flags →

@@ -13,7 +13,7 @@ no_bits zero = refl
 no_bits (suc m) = omega (arith, no_bits m)
 
 -- If all bits are 0, no lane passes the test.
-pub no_bit : (p : ℕ → Bool) (a n m : ℕ) → mask_l (map p (range_with_len a n) ++ replicate m false) ≡ 0 →
+no_bit : (p : ℕ → Bool) (a n m : ℕ) → mask_l (map p (range_with_len a n) ++ replicate m false) ≡ 0 →
     (i : ℕ) → a ≤ i → i < a + n → p i ≡ false
 no_bit p a zero m none i from before = absurd (omega arith)
 no_bit p a (suc n) m none i from before = grind (arith, cases_Bool, no_bit p (a + 1) n m)

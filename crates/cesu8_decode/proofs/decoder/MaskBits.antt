@@ -73,7 +73,7 @@ without_bits {a = a} {b = b} {p = p} {q = q} small_a small_b h k = record {
       (cases_lt i 64);
 }
 
-pub bit_shifted : (a k i : ℕ) → bit_at (a / 2 ^ k) i ≡ bit_at a (i + k)
+bit_shifted : (a k i : ℕ) → bit_at (a / 2 ^ k) i ≡ bit_at a (i + k)
 bit_shifted a k i = grind (arith, pow-add, add_comm, div-div-eq-div-mul)
 
 -- From an offset on, as many bits are set in a row as `trailing_ones` returns.

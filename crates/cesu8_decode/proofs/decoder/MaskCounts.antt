@@ -55,7 +55,7 @@ at_most_one t = grind arith
 
 module _ (f : Flavor) (bytes : List ℕ) where
   -- What n offsets save, by how many of them begin with each form.
-  pub saved_by_counts : (i n : ℕ) →
+  saved_by_counts : (i n : ℕ) →
       let count : (ℕ → Bool) → ℕ = λ test. count_by test (range_with_len i n) in
       (saved_between f bytes i n + 2 * count (is_other_at f bytes)
       ≡ 2 * n + 4 * count (is_two_at bytes) + 6 * count (is_three_at bytes) + 14 * count (is_pair_at f bytes) + 5 * count (is_null_at f bytes))
@@ -87,7 +87,7 @@ later_range a (suc k) n =
     rw (suc-add k n) (later_range (a + 1) k n ∙ ap (λ i. range_with_len i n) offset)
 
 -- The number of bits of a mask from bit k on is the number of offsets from there on that pass.
-pub bits_count : (test : ℕ → Bool) (k n mask : ℕ) → mask ≡ mask_l (map test (range_with_len 0 (k + n))) →
+bits_count : (test : ℕ → Bool) (k n mask : ℕ) → mask ≡ mask_l (map test (range_with_len 0 (k + n))) →
     count_ones (mask / 2 ^ k) ≡ count_by test (range_with_len k n)
 bits_count test k n mask is =
     let long = length-range_with_len 0 (k + n) in

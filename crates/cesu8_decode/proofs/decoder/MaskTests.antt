@@ -27,15 +27,15 @@ pub two_lead_bit : (a : ℕ) → a < 256 → (leb 0xC2 a && not (has_bit_below 2
 two_lead_bit a small = agree_below_at (λ a. leb 0xC2 a && not (has_bit_below 2 a)) (λ a. leb 0xC2 a && ltb a 0xE0) 256 a refl small
 
 -- A byte from E0 on has the fourth bit set if it is F0 or more.
-pub three_lead_bit : (a : ℕ) → a < 256 → (leb 0xE0 a && not (has_bit_below 3 a)) ≡ (leb 0xE0 a && ltb a 0xF0)
+three_lead_bit : (a : ℕ) → a < 256 → (leb 0xE0 a && not (has_bit_below 3 a)) ≡ (leb 0xE0 a && ltb a 0xF0)
 three_lead_bit a small = agree_below_at (λ a. leb 0xE0 a && not (has_bit_below 3 a)) (λ a. leb 0xE0 a && ltb a 0xF0) 256 a refl small
 
 -- A continuation byte has the third bit set if it is A0 or more, and then the fourth if it is B0 or
 -- more.
-pub wide_bit : (b : ℕ) → b < 256 → (continues b && has_bit_below 2 b) ≡ (leb 0xA0 b && ltb b 0xC0)
+wide_bit : (b : ℕ) → b < 256 → (continues b && has_bit_below 2 b) ≡ (leb 0xA0 b && ltb b 0xC0)
 wide_bit b small = agree_below_at (λ b. continues b && has_bit_below 2 b) (λ b. leb 0xA0 b && ltb b 0xC0) 256 b refl small
 
-pub odd_bit : (b : ℕ) → b < 256 → ((continues b && has_bit_below 2 b) && has_bit_below 3 b) ≡ (leb 0xB0 b && ltb b 0xC0)
+odd_bit : (b : ℕ) → b < 256 → ((continues b && has_bit_below 2 b) && has_bit_below 3 b) ≡ (leb 0xB0 b && ltb b 0xC0)
 odd_bit b small = agree_below_at (λ b. (continues b && has_bit_below 2 b) && has_bit_below 3 b) (λ b. leb 0xB0 b && ltb b 0xC0) 256 b refl small
 
 -- ---- three bytes
@@ -47,7 +47,7 @@ whole_by a b d p = ((leb 0xE0 a && continues b) && continues d) && not p
 abbrev pub surrogate_by : (a b d : ℕ) (p q : Bool) → Bool
 surrogate_by a b d p q = (whole_by a b d p && q) && eqb a 0xED
 
-abbrev pub three_by : (a b d : ℕ) (p q : Bool) → Bool
+abbrev three_by : (a b d : ℕ) (p q : Bool) → Bool
 three_by a b d p q = whole_by a b d p && not (surrogate_by a b d p q || (eqb a 0xE0 && not q))
 
 abbrev pub pair_by : (a b d e g h : ℕ) (p q r p2 q2 r2 : Bool) → Bool

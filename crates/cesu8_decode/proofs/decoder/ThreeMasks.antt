@@ -8,10 +8,10 @@ use Rattle.cesu8_decode.proofs.decoder.MaskBits.{told_by, and_bits, or_bits, wit
 use Rattle.cesu8_decode.proofs.decoder.MaskTests.{whole_by, plain_three, plain_not_pair, surrogate_by, pair_by, three_bits, pair_bits, no_surrogate, no_lead_no_three, no_lead_no_pair}
 
 -- The masks that the code computes.
-abbrev pub whole_of : (leads second odd : ℕ) → ℕ
+abbrev whole_of : (leads second odd : ℕ) → ℕ
 whole_of leads second odd = bit_and (bit_and leads (second / 2)) (bit_not w64 odd)
 
-abbrev pub surrogates_of : (leads second wide odd led : ℕ) → ℕ
+abbrev surrogates_of : (leads second wide odd led : ℕ) → ℕ
 surrogates_of leads second wide odd led = bit_and (bit_and (whole_of leads second odd) (wide / 2)) led
 
 -- These masks have 64 bits.

@@ -51,7 +51,7 @@ module _ (f : Flavor) (bytes : List ℕ) (at n : ℕ) (boundary : is_boundary_at
   reach_fits : (i : ℕ) → Part f bytes at n 1 i → (s : ℕ) × (s ≤ i) × (i - s < n) × (s < w (i - s)) × (s < 6)
   reach_fits i part = grind (arith, width_bounds)
 
-  pub not_ill : (i : ℕ) → covered i ≡ true → ill i ≡ false
+  not_ill : (i : ℕ) → covered i ≡ true → ill i ≡ false
   not_ill i set =
       let part = reach_fits i (from_covered f bytes at n i set) in
       ⊎_elim (λ (bad : ill i ≡ true). absurd (omega (arith, ill_apart i part.0 bad part.1 part.4, part.3))) (λ (fine : ill i ≡ false). fine) (cases_Bool (ill i))
@@ -109,7 +109,7 @@ module _ (f : Flavor) (bytes : List ℕ) (at n : ℕ) (boundary : is_boundary_at
       by_reach (inr (inr (inr (inr (inl h))))) = reaching i 4 (at + i + 1) inside small (omega arith) (omega arith) (omega (arith, h))
       by_reach (inr (inr (inr (inr (inr h))))) = reaching i 5 (at + i) inside small (omega arith) (omega arith) (omega (arith, h))
 
-  pub ill_marks : (others mask : ℕ) → n ≤ 64 → others < 2 ^ 64 → mask < 2 ^ 64 →
+  ill_marks : (others mask : ℕ) → n ≤ 64 → others < 2 ^ 64 → mask < 2 ^ 64 →
       HasBits others (λ i. ltb i n && is_other_at f bytes (at + i)) → HasBits mask covered →
       Marks (bit_and others (bit_not w64 mask)) (is_ill_formed_at f (window_of bytes)) at n
   ill_marks others mask few others_fit mask_fits of_others of_mask =
@@ -139,7 +139,7 @@ module _ (f : Flavor) (bytes : List ℕ) (at n : ℕ) (boundary : is_boundary_at
   covered_near : (i : ℕ) → covered i ≡ true → i < n + 5
   covered_near i set = let part = reach_fits i (from_covered f bytes at n i set) in omega (arith, part.1, part.2, part.4)
 
-  pub ends_of : (mask : ℕ) → n < 64 → mask < 2 ^ 64 → HasBits mask covered → Ends (trailing_ones w64 (mask / 2 ^ n))
+  ends_of : (mask : ℕ) → n < 64 → mask < 2 ^ 64 → HasBits mask covered → Ends (trailing_ones w64 (mask / 2 ^ n))
   ends_of mask few fits of_mask =
       let r = trailing_ones w64 (mask / 2 ^ n) in
       let ones : (i : ℕ) → n ≤ i → i < n + r → covered i ≡ true = λ i from to. set_true (covered i) (bit_at mask i) (of_mask.bit i) (run_ones mask n fits i from to) in
@@ -177,7 +177,7 @@ module _ (f : Flavor) (bytes : List ℕ) (at n : ℕ) (boundary : is_boundary_at
         )
 
     -- No character crosses the end of the window, if the byte after it is not covered.
-    pub boundary_after : ((i : ℕ) → i < n → i + w i ≤ 64) → is_boundary_at f (window_of bytes) (at + (n + r)) ≡ true
+    boundary_after : ((i : ℕ) → i < n → i + w i ≤ 64) → is_boundary_at f (window_of bytes) (at + (n + r)) ≡ true
     boundary_after whole = boundary_where f (window_of bytes) (at + (n + r)) (λ s small.
         ⊎_elim (λ (early : n + r + s < 5).
         let place : at + (n + r) + s ≡ at + (n + r + s) = omega arith in

@@ -8,9 +8,9 @@ ghost use Rattle.std.specs.Prelude.{◌≡◌, ◌+◌, ◌*◌, ◌<◌, ◌≤
 ghost use Rattle.cesu8_text.specs.Text.{utf8};
 ghost use Rattle.cesu8_bytes.specs.Puts.{WritesAt};
 ghost use Rattle.cesu8_bytes.specs.declared.strictness.Strictness.TheVariants.{Strict};
-ghost use Rattle.cesu8_decode.specs.DecodedOffsets.{decoded, window_of, is_boundary_at, width_at};
+ghost use Rattle.cesu8_decode.specs.DecodedOffsets.{decoded, window_of, width_at};
 ghost use Rattle.cesu8_decode.specs.Decoding.{most_written};
-ghost use Rattle.cesu8_decode.specs.Masks.{IsWindow, is_null_at, is_pair_at};
+ghost use Rattle.cesu8_decode.specs.Masks.{HoldWindow, is_null_at, is_pair_at};
 
 mod dense_nulls;
 mod replaced;
@@ -27,6 +27,12 @@ use std::simd::prelude::*;
 
 /// How many bytes can be stored after the text of a window.
 pub const STORED_AFTER: usize = LANES;
+
+/// The length of C0 80.
+const NULL: usize = 2;
+
+/// The length of its character in UTF-8.
+const NULL_UTF8: usize = 1;
 
 /// How many replacement characters one store writes.
 const AT_ONCE: usize = 10;
@@ -54,10 +60,8 @@ pub fn write_events<F: Flavor, S: Reading>(
     out: &mut [u8],
     end: usize,
 ) -> usize
-    requires window { IsWindow F.flavor bytes.now at window }
-    requires boundary { is_boundary_at F.flavor (window_of bytes.now) at ≡ true }
+    requires window { HoldWindow F.flavor bytes.now at window }
     requires strict { S.which ≡ Strict → window.ill_formed ≡ 0 }
-    requires bytes { at + window.len + LANES ≤ length bytes.now }
     requires room { end + most_written S.which LANES + STORED_AFTER ≤ length out.old }
     ensures { WritesAt (decoded F.flavor (window_of bytes.now) at window.len)
         end out.old out.new result }
@@ -85,10 +89,8 @@ fn write_in_turn<F: Flavor, S: Reading>(
     out: &mut [u8],
     end: usize,
 ) -> usize
-    requires window { IsWindow F.flavor bytes.now at window }
-    requires boundary { is_boundary_at F.flavor (window_of bytes.now) at ≡ true }
+    requires window { HoldWindow F.flavor bytes.now at window }
     requires strict { S.which ≡ Strict → window.ill_formed ≡ 0 }
-    requires bytes { at + window.len + LANES ≤ length bytes.now }
     requires room { end + most_written S.which window.len + STORED_AFTER ≤ length out.old }
     ensures { WritesAt (decoded F.flavor (window_of bytes.now) at window.len)
         end out.old out.new result }
@@ -149,10 +151,16 @@ fn write_changed<F: Flavor>(
         end out.old out.new result.1 }
     ensures end { result.1 ≤ end + result.0 }
 {
-    if is_null {
-        return (2, put(&[0], out, end));
-    }
-    (PAIR, put(&utf8_of_pair(&bytes[at..]), out, end))
+    // Computes the UTF-8 of a pair even if there is none, and chooses by `is_null` after that. A
+    // branch would be mispredicted if pairs and C0 80 alternate.
+    let pair = u32::from_le_bytes(utf8_of_pair(&bytes[at..]));
+    let (len, utf8, written) = if is_null {
+        (NULL, 0, NULL_UTF8)
+    } else {
+        (PAIR, pair, PAIR_UTF8)
+    };
+    put(&utf8.to_le_bytes(), out, end);
+    (len, end + written)
 }
 
 /// Writes `count` replacement characters, and returns their end. Each store writes ten, so bytes

@@ -5,8 +5,8 @@
 
 ghost use Rattle.std.specs.Prelude.{◌≡◌, ◌+◌, ◌≤◌, ◌==◌, if◌then◌else◌, true, length, map};
 ghost use Rattle.cesu8_bytes.specs.Puts.{WritesAt};
-ghost use Rattle.cesu8_decode.specs.DecodedOffsets.{decoded, window_of, is_boundary_at};
-ghost use Rattle.cesu8_decode.specs.Masks.{IsWindow};
+ghost use Rattle.cesu8_decode.specs.DecodedOffsets.{decoded, window_of};
+ghost use Rattle.cesu8_decode.specs.Masks.{HoldWindow};
 
 use crate::lanes::windows::Window;
 use cesu8_bytes::BLOCK;
@@ -25,10 +25,8 @@ pub fn write_nulls<F: Flavor>(
     out: &mut [u8],
     end: usize,
 ) -> usize
-    requires window { IsWindow F.flavor bytes.now at window }
-    requires boundary { is_boundary_at F.flavor (window_of bytes.now) at ≡ true }
+    requires window { HoldWindow F.flavor bytes.now at window }
     requires nulls { (window.pairs ≡ 0) × (window.ill_formed ≡ 0) }
-    requires bytes { at + window.len + LANES ≤ length bytes.now }
     requires room { end + LANES + LANES ≤ length out.old }
     ensures { WritesAt (decoded F.flavor (window_of bytes.now) at window.len)
         end out.old out.new result }

@@ -7,8 +7,8 @@ ghost use Rattle.std.specs.Prelude.{◌≡◌, List, Bool, ◌+◌, ◌*◌, ◌
 ghost use Rattle.std.specs.Simd.Lanes.{mask_l};
 ghost use Rattle.cesu8_bytes.specs.Packing.{written, kept_of, lanes_at};
 ghost use Rattle.cesu8_bytes.specs.Puts.{WritesAt};
-ghost use Rattle.cesu8_decode.specs.DecodedOffsets.{decoded, window_of, is_boundary_at};
-ghost use Rattle.cesu8_decode.specs.Masks.{IsWindow, AreShufflesOfReplaced};
+ghost use Rattle.cesu8_decode.specs.DecodedOffsets.{decoded, window_of};
+ghost use Rattle.cesu8_decode.specs.Masks.{HoldWindow, AreShufflesOfReplaced};
 
 use crate::lanes::windows::Window;
 use cesu8_bytes::flavor::Flavor;
@@ -56,10 +56,8 @@ pub fn write_replaced<F: Flavor>(
     out: &mut [u8],
     end: usize,
 ) -> usize
-    requires window { IsWindow F.flavor bytes.now at window }
-    requires boundary { is_boundary_at F.flavor (window_of bytes.now) at ≡ true }
+    requires window { HoldWindow F.flavor bytes.now at window }
     requires replaced { (window.pairs ≡ 0) × (window.nulls ≡ 0) }
-    requires bytes { at + window.len + LANES ≤ length bytes.now }
     requires room { end + REPLACEMENT * LANES + LANES ≤ length out.old }
     ensures { WritesAt (decoded F.flavor (window_of bytes.now) at window.len)
         end out.old out.new result }

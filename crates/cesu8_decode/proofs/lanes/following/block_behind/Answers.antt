@@ -1,3 +1,5 @@
+-- The shuffles take 32 successive bytes of the two vectors, from one to four bytes before the
+-- block.
 use Rattle.std.proofs.Common.{◌≡◌, ℕ, ◌+◌, ◌≤◌, List, [], ◌∷◌, ◌++◌, refl, ◌∙◌, sym, ap, arith, length, length-append, length-drop, drop, take, take_all}
 use Rattle.std.proofs.lemmas.List.{drop-drop}
 use Rattle.std.proofs.lemmas.Simd.{pick_l-range_with_len}

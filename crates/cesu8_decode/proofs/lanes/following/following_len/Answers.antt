@@ -1,3 +1,4 @@
+-- The lanes before the first error are bytes that can follow, and the byte after them cannot.
 use Rattle.cesu8_decode.proofs.decoder.FollowingBlocks.{within, passed, stopped}
 use Rattle.cesu8_decode.proofs.lanes.following.following_len.Goals as goal
 

@@ -1,3 +1,5 @@
+-- If the set has C0 80, the comparison with 80 chooses the mask of each lane. Otherwise all masks
+-- are FF.
 use Rattle.std.proofs.Common.{◌≡◌, ◌∙◌, eqb, sym, ap, true}
 use Rattle.cesu8_bytes.proofs.lists.Lanes.{chosen_lanes}
 use Rattle.cesu8_decode.specs.Following.{has_changed}

@@ -1,3 +1,5 @@
+-- A byte can follow the bytes before it if and only if the class of the byte pair is the required
+-- one.
 use Rattle.std.proofs.Common.{arith}
 use Rattle.cesu8_decode.proofs.decoder.FollowingBlocks.{misplaced_are}
 use Rattle.cesu8_decode.proofs.lanes.following.misplaced.Goals as goal

@@ -1,3 +1,4 @@
+-- A shift of each lane moves the bit to the highest place, which `bits` reads.
 use Rattle.std.proofs.Common.{arith}
 use Rattle.std.proofs.lemmas.Simd.{shifts_fit_splat}
 use Rattle.cesu8_decode.proofs.decoder.MaskBits.{shifted_bits}

@@ -1,3 +1,4 @@
+-- A power of two less one has the bits below it, and a word of 64 ones all of them.
 use Rattle.std.proofs.Common.{◌≡◌, sym, subst, ltb, arith}
 use Rattle.cesu8_decode.specs.Masks.{HasBits}
 use Rattle.cesu8_decode.proofs.decoder.MaskBits.{first_have_bits, power_less_one}

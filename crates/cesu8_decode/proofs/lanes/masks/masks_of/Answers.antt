@@ -1,3 +1,5 @@
+-- Each mask has the bits of its characters, as combinations of the masks of byte classes. If all
+-- bytes are characters of one byte, no other begins.
 use Rattle.std.proofs.Common.{arith}
 use Rattle.cesu8_decode.proofs.decoder.FormMasks.{others_are, ones_alone, second_are, long_leads_are, below_c2_are, twos_are, threes_first, pairs_first, nulls_first}
 use Rattle.cesu8_decode.proofs.lanes.masks.masks_of.Goals as goal

@@ -1,3 +1,4 @@
+-- In MUTF-8 a null byte is no character, so the mask has the lanes with 00. In CESU-8 it is empty.
 use Rattle.std.proofs.Common.{◌≡◌, ltb, eqb, ◌&&◌, get_or, ap, ◌∙◌, sym}
 use Rattle.std.proofs.lemmas.Bool.{both_ways}
 use Rattle.cesu8_text.specs.Encoding.{Mutf8}

@@ -1,3 +1,4 @@
+-- C0 80 begins at the bits of C0 whose next bit is one of 80.
 use Rattle.std.proofs.Common.{◌+◌, eqb, get_or, refl}
 use Rattle.cesu8_decode.specs.Masks.{is_null_at}
 use Rattle.cesu8_decode.proofs.decoder.MaskBits.{class_bits, and_bits, later_bits, told_by}

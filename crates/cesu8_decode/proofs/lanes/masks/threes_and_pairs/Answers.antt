@@ -1,3 +1,5 @@
+-- Lead bytes of three bytes whose second byte is in range begin characters. The others after ED can
+-- be halves of pairs, which are pairs if a low surrogate follows a high one.
 use Rattle.std.proofs.Common.{eqb, ◌||◌, refl, arith}
 use Rattle.cesu8_decode.proofs.decoder.MaskBits.{class_bits, lanes_below}
 use Rattle.cesu8_decode.proofs.decoder.ThreeMasks.{none_are, plain_are, threes_are, no_pairs_are, pairs_are}

@@ -1,3 +1,5 @@
+-- The last block is the bytes after those that are stored, with zeros after them, and the rest of
+-- the source was zeros before. So the source is the bytes with zeros after them.
 use Rattle.std.proofs.Common.{◌≡◌, ℕ, List, ◌+◌, ◌-◌, ◌<◌, ◌≤◌, ◌++◌, ◌∙◌, ⊎_elim, refl, sym, ap, arith, length, take, drop, replicate, append_assoc, length-append, length-drop, take-append-drop}
 use Rattle.std.proofs.lemmas.Bool.{both_ways, cases_lt}
 use Rattle.std.proofs.lemmas.List.{drop-drop, drop-replicate, length-replicate, length-take-le, replicate-append-replicate, take_rest}

@@ -1,3 +1,4 @@
+-- The bits that the three entries of a byte pair have in common are its class.
 use Rattle.cesu8_decode.proofs.decoder.LookUps.{told_are}
 use Rattle.cesu8_decode.proofs.lanes.tables.common_bits.Goals as goal
 

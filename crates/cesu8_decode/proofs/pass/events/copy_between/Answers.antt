@@ -1,3 +1,4 @@
+-- Of the 64 bytes that are stored, the first `count` are those that are copied.
 use Rattle.std.proofs.Common.{arith, take, drop, length-drop}
 use Rattle.std.proofs.lemmas.List.{length-take-le, take-take}
 use Rattle.cesu8_bytes.proofs.lists.Stored.{first_written}

@@ -1,3 +1,5 @@
+-- Each store begins after the replacement characters that are written. Of the last store only
+-- `left` of them count.
 use Rattle.std.proofs.Common.{◌≡◌, ◌+◌, ◌-◌, ◌*◌, arith, refl, subst, replicate}
 use Rattle.cesu8_text.specs.Text.{utf8, utf8_of}
 use Rattle.cesu8_bytes.specs.Puts.{WritesAt}

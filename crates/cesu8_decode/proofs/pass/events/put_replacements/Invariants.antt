@@ -1,3 +1,4 @@
+-- Before each round all but `left` replacement characters are written. Each round writes ten more.
 use Rattle.std.proofs.Common.{◌-◌, ◌≡◌, ◌+◌, ◌*◌, ◌≤◌, replicate}
 use Rattle.cesu8_text.specs.Text.{utf8}
 use Rattle.cesu8_bytes.specs.Puts.{WritesAt}

@@ -1,3 +1,4 @@
+-- If the two masks have no common bit set, both are 0, as `write_replaced` needs.
 use Rattle.std.proofs.Common.{arith}
 use Rattle.std.proofs.lemmas.Nat.{le_or_l, le_or_r}
 use Rattle.cesu8_decode.proofs.pass.events.write_events.Goals as goal

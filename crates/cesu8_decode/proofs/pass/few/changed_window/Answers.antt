@@ -1,3 +1,5 @@
+-- The characters that need conversion and begin with C0 are C0 80. The others are surrogate pairs,
+-- and no byte is ill-formed. So their masks are those of the window.
 use Rattle.std.proofs.Common.{◌≡◌, ◌+◌, ◌^◌, ◌<◌, ◌&&◌, ltb, eqb, length, take, bit_and, get_or, refl, ap, sym, ◌∙◌, subst, arith, w64, zero-add}
 use Rattle.std.specs.Int.{bit_not}
 use Rattle.std.proofs.lemmas.Bool.{both_ways}

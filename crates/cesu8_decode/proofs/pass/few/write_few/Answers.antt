@@ -1,3 +1,5 @@
+-- If a character needs conversion, no byte is ill-formed, and the text of the window is that of the
+-- bytes.
 use Rattle.cesu8_decode.proofs.decoder.Passes.{reads_text}
 use Rattle.cesu8_decode.proofs.pass.few.write_few.Goals as goal
 

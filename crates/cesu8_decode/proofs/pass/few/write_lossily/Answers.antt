@@ -1,4 +1,6 @@
-use Rattle.std.proofs.Common.{sym}
+-- The bytes with zeros after them are the source. The window of the bytes is also one of the source,
+-- and its text is that of the bytes.
+use Rattle.std.proofs.Common.{arith, sym}
 use Rattle.cesu8_bytes.specs.declared.strictness.Strictness.TheVariants.{Lossy}
 use Rattle.cesu8_decode.proofs.by_offset.CharacterBoundaries.{boundary_of_zeros}
 use Rattle.cesu8_decode.proofs.decoder.FewWindows.{alike_with_zeros, window_of_alike}
@@ -9,10 +11,12 @@ pub write_events-requires-clause-window : goal.write_events-requires-clause-wind
 write_events-requires-clause-window g c =
     let bytes = c.args.bytes.now in
     let source = c.load.new.source in
-    window_of_alike g.F.Flavor.flavor bytes source 0 _ (λ k. sym (alike_with_zeros bytes source _ c.load.ensures k)) c.window_of_few-window.ensures.window.0
-
-pub write_events-requires-clause-boundary : goal.write_events-requires-clause-boundary
-write_events-requires-clause-boundary g c = boundary_of_zeros g.F.Flavor.flavor c.load.new.source
+    let made = c.window_of_few-window.ensures in
+    record {
+      is_window = window_of_alike g.F.Flavor.flavor bytes source 0 _ (λ k. sym (alike_with_zeros bytes source _ c.load.ensures k)) made.window.0;
+      boundary = boundary_of_zeros g.F.Flavor.flavor source;
+      after = omega (arith, made.len, c.requires.few, c.load.auto);
+    }
 
 pub returns : goal.returns
 returns g c =

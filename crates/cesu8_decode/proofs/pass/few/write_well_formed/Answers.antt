@@ -1,10 +1,17 @@
+-- The bytes with zeros after them are the source. Its window has no ill-formed byte, so its text is
+-- that of the bytes in either strictness.
+use Rattle.std.proofs.Common.{arith}
 use Rattle.cesu8_decode.proofs.by_offset.CharacterBoundaries.{boundary_of_zeros}
 use Rattle.cesu8_decode.proofs.decoder.FewWindows.{alike_with_zeros}
 use Rattle.cesu8_decode.proofs.decoder.Passes.{text_of_window}
 use Rattle.cesu8_decode.proofs.pass.few.write_well_formed.Goals as goal
 
-pub write_events-requires-clause-boundary : goal.write_events-requires-clause-boundary
-write_events-requires-clause-boundary g c = boundary_of_zeros g.F.Flavor.flavor c.load.new.source
+pub write_events-requires-clause-window : goal.write_events-requires-clause-window
+write_events-requires-clause-window g c = record {
+  is_window = c.changed_window-window.ensures.window;
+  boundary = boundary_of_zeros g.F.Flavor.flavor c.load.new.source;
+  after = omega (arith, c.changed_window-window.ensures.len, c.requires.few, c.load.ensures, c.load.auto);
+}
 
 pub returns : goal.returns
 returns g c =

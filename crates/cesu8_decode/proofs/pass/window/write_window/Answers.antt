@@ -1,3 +1,6 @@
+-- The text of the window is what decoding writes for its bytes. If a bit of the mask of ill-formed
+-- bytes is set, a byte is ill-formed, and strict decoding may reject the window. A window that is
+-- followed by a zero ends there, since no character has a zero after its first byte.
 use Rattle.std.proofs.Common.{rules, ◌≡◌, ◌+◌, false, refl, ap, ◌∙◌, get_or}
 use Rattle.cesu8_bytes.specs.declared.strictness.Strictness.TheVariants.{Strict}
 use Rattle.cesu8_decode.specs.DecodedOffsets.{window_of}

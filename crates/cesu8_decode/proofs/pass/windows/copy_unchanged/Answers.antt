@@ -1,3 +1,5 @@
+-- The bytes up to the first that is not unchanged are their own text, so the pass goes on after
+-- them.
 use Rattle.std.proofs.Common.{◌+◌, ◌-◌, refl, sym, subst, arith, length, take, drop}
 use Rattle.std.proofs.lemmas.List.{length-take, length-take-le, take_rest}
 use Rattle.cesu8_decode.specs.Decoding.{GoesOn}

@@ -1,3 +1,4 @@
+-- A pass that reads all bytes from the first on has written their text.
 use Rattle.std.proofs.Common.{[], refl, arith}
 use Rattle.cesu8_decode.specs.DecodedOffsets.{window_of}
 use Rattle.cesu8_decode.proofs.decoder.BlocksInPlace.{none_decoded}

@@ -1,3 +1,5 @@
+-- A window that begins where the pass stands takes it to the end of the window. Unchanged bytes
+-- that are copied after that take it further.
 use Rattle.std.proofs.Common.{rules, ◌≡◌, false, arith}
 use Rattle.cesu8_decode.proofs.decoder.Passes.{goes_nowhere, goes_further, window_goes_on}
 use Rattle.cesu8_decode.proofs.pass.windows.write_in_place.Goals as goal

@@ -1,3 +1,5 @@
+-- Before each round the pass has gone on from `before` to `pass`, window by window. Each round
+-- reads at least one byte.
 use Rattle.std.proofs.Common.{◌≡◌, ◌-◌, false, length}
 use Rattle.cesu8_decode.specs.Decoding.{GoesOn}
 use Rattle.cesu8_decode.proofs.pass.windows.write_in_place.Given as goal

@@ -1,3 +1,4 @@
+-- A surrogate pair that begins where the pass stands takes it six bytes further.
 use Rattle.std.proofs.Common.{◌≤◌, refl, arith, length-drop}
 use Rattle.std.proofs.Math.Nat.{mul-div-le}
 use Rattle.std.proofs.lemmas.List.{take_rest}

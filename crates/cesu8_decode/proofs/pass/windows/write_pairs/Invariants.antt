@@ -1,3 +1,5 @@
+-- Before each round the pass has gone on from `read` to `at`, pair by pair. Six bytes that are read
+-- give four that are written, so the buffer has space for as many pairs as the loop can read.
 use Rattle.std.proofs.Common.{◌-◌, ◌+◌, ◌*◌, ◌≤◌, length}
 use Rattle.cesu8_decode.specs.Decoding.{GoesOn, pass_from}
 use Rattle.cesu8_decode.proofs.decoder.Passes.{pass_at}

@@ -1,46 +1,29 @@
-use Rattle.std.proofs.Common.{◌≤◌, ◌+◌, sym, append-nil, arith, refl, take}
-use Rattle.cesu8_decode.proofs.decoder.EventsPacked.{block_written, window_written, few_packed, after_window}
+-- For the bytes of the window each round writes their text. The bytes after the window, up to the
+-- 64th, are one byte each, which the function subtracts.
+use Rattle.std.proofs.Common.{◌≤◌, ◌+◌, arith, refl}
+use Rattle.cesu8_decode.proofs.decoder.EventsPacked.{none_stored, stored_most, stored_after, stored_text, nulls_packed, block_stored}
 use Rattle.cesu8_decode.proofs.pass.events.dense_nulls.write_nulls.Goals as goal
 
 pub loop-written-init : goal.loop-written-init
-loop-written-init g c = record {
-  blocks = omega arith;
-  within = omega arith;
-  text = record { bytes = sym (append-nil (take c.args.end c.args.out.now)); end = omega arith; len = refl };
-}
+loop-written-init g c = none_stored _ 32 c.args.end c.args.out.now refl
 
 pub store_kept-end-requires : goal.store_kept-end-requires
 store_kept-end-requires g c =
-    let loop = c.loop-written in
-    let few =
-    few_packed g.F.Flavor.flavor c.args.bytes.now c.args.at c.args.window c.requires.window (omega (arith, c.requires.bytes)) c.requires.nulls.0
-    c.requires.nulls.1 c.requires.boundary loop.written in
-    omega (arith, few, loop.invariant.text.end, loop.invariant.text.len, c.requires.room, loop.invariant.blocks, c.loop-written-test.true, c.requires.window.fits)
+    let stored = c.loop-written.invariant in
+    let most = stored_most (nulls_packed c.requires.window c.requires.nulls.0 c.requires.nulls.1) c.loop-written.written in
+    omega (arith, most, stored.text.end, stored.text.len, c.requires.room, stored.whole, c.loop-written-test.true, c.requires.window.is_window.fits)
 
 pub overflow_sub-result-2 : goal.overflow_sub-result-2
 overflow_sub-result-2 g c =
-    let loop = c.loop-written in
-    after_window g.F.Flavor.flavor c.args.bytes.now c.args.at c.args.window c.requires.window (omega (arith, c.requires.bytes))
-    c.requires.nulls.0 c.requires.nulls.1 c.requires.boundary loop.written c.args.end loop.end c.args.out.now loop.out (omega (arith, c.loop-written-test.false, c.requires.window.fits))
-    loop.invariant.within loop.invariant.text
+    stored_after (nulls_packed c.requires.window c.requires.nulls.0 c.requires.nulls.1) c.loop-written.invariant (omega (arith, c.loop-written-test.false, c.requires.window.is_window.fits))
 
 pub loop-written-preserved : goal.loop-written-preserved
 loop-written-preserved g c =
     let loop = c.loop-written in
-    let small : loop.written + 32 ≤ 64 = omega (arith, loop.invariant.blocks, c.loop-written-test.true, c.requires.window.fits) in
-    record {
-      blocks = omega (arith, loop.invariant.blocks);
-      within = small;
-      text =
-          block_written g.F.Flavor.flavor c.args.bytes.now c.args.at c.args.window c.requires.window (omega (arith, c.requires.bytes)) c.requires.nulls.0
-          c.requires.nulls.1 c.requires.boundary loop.written c.args.end loop.end c.store_kept-end.result c.zeroed.result c.args.out.now loop.out
-          c.store_kept-end.new.out small c.zeroed.ensures loop.invariant.text c.store_kept-end.ensures;
-    }
+    let within : loop.written + 32 ≤ 64 = omega (arith, loop.invariant.whole, c.loop-written-test.true) in
+    block_stored c.requires.window c.requires.nulls.0 c.requires.nulls.1 loop.written c.args.end loop.end c.store_kept-end.result c.zeroed.result c.args.out.now loop.out
+    c.store_kept-end.new.out within c.zeroed.ensures loop.invariant c.store_kept-end.ensures
 
 pub returns : goal.returns
 returns g c =
-    let loop = c.loop-written in
-    window_written g.F.Flavor.flavor c.args.bytes.now c.args.at c.args.window c.requires.window (omega (arith, c.requires.bytes))
-    c.requires.nulls.0 c.requires.nulls.1 c.requires.boundary loop.written c.args.end loop.end c.args.out.now loop.out (omega (arith, c.loop-written-test.false, c.requires.window.fits))
-    loop.invariant.within loop.invariant.text
-    (omega (arith, c.requires.room))
+    stored_text (nulls_packed c.requires.window c.requires.nulls.0 c.requires.nulls.1) c.loop-written.invariant (omega (arith, c.loop-written-test.false, c.requires.window.is_window.fits)) (omega (arith, c.requires.room))

@@ -1,3 +1,4 @@
+-- The comparison with C0 is a test of each lane, and the select writes 0 if it passes.
 use Rattle.std.proofs.Common.{ap, ◌∙◌, eqb, replicate, w8}
 use Rattle.std.proofs.lemmas.Simd.{tops_compared, zip2_splat}
 use lib.Lanes.{sel_l}

@@ -1,3 +1,4 @@
+-- A row of the table packs the four bytes as its number says, which is at most twelve bytes.
 use Rattle.std.proofs.Common.{arith, get_or, []}
 use Rattle.cesu8_decode.proofs.decoder.EventsRows.{end_of_four, four_written}
 use Rattle.cesu8_decode.proofs.pass.events.replaced.store_four.Goals as goal

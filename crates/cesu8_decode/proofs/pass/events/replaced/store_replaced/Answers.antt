@@ -1,3 +1,5 @@
+-- Each of the four vectors has four of the bytes and a replacement character in its first lanes.
+-- What is stored for them, one after another, is what is written for the sixteen bytes.
 use Rattle.std.proofs.Common.{ℕ, ◌+◌, ◌<◌, ◌≤◌, ◌++◌, ap, ◌∙◌, subst, arith, bit_and}
 use Rattle.std.specs.List.{range_with_len}
 use Rattle.std.proofs.lemmas.Nat.{and_le_r}

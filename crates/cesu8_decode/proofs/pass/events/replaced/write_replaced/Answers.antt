@@ -1,44 +1,29 @@
-use Rattle.std.proofs.Common.{◌≤◌, ◌+◌, sym, append-nil, arith, refl, take}
-use Rattle.cesu8_decode.proofs.decoder.EventsPacked.{half_written, replaced_written, replaced_after, few_replaced}
+-- For the bytes of the window each round writes their text. The bytes after the window, up to the
+-- 64th, are one byte each, which the function subtracts.
+use Rattle.std.proofs.Common.{◌≤◌, ◌+◌, arith, refl}
+use Rattle.cesu8_decode.proofs.decoder.EventsPacked.{none_stored, stored_most, stored_after, stored_text, replaced_packed, half_stored}
 use Rattle.cesu8_decode.proofs.pass.events.replaced.write_replaced.Goals as goal
 
 pub loop-written-init : goal.loop-written-init
-loop-written-init g c = record {
-  halves = omega arith;
-  within = omega arith;
-  text = record { bytes = sym (append-nil (take c.args.end c.args.out.now)); end = omega arith; len = refl };
-}
+loop-written-init g c = none_stored _ 16 c.args.end c.args.out.now refl
 
 pub store_replaced-end-requires : goal.store_replaced-end-requires
 store_replaced-end-requires g c =
-    let loop = c.loop-written in
-    let few =
-    few_replaced g.F.Flavor.flavor c.args.bytes.now c.args.at c.args.window c.requires.window (omega (arith, c.requires.bytes))
-    c.requires.replaced.0 c.requires.replaced.1 c.requires.boundary loop.written in
-    omega (arith, few, loop.invariant.text.end, loop.invariant.text.len, c.requires.room, loop.invariant.halves, c.loop-written-test.true, c.requires.window.fits)
+    let stored = c.loop-written.invariant in
+    let most = stored_most (replaced_packed c.requires.window c.requires.replaced.0 c.requires.replaced.1) c.loop-written.written in
+    omega (arith, most, stored.text.end, stored.text.len, c.requires.room, stored.whole, c.loop-written-test.true, c.requires.window.is_window.fits)
 
 pub overflow_sub-result-2 : goal.overflow_sub-result-2
 overflow_sub-result-2 g c =
-    let loop = c.loop-written in
-    replaced_after g.F.Flavor.flavor c.args.bytes.now c.args.at c.args.window c.requires.window (omega (arith, c.requires.bytes))
-    c.requires.replaced.0 c.requires.replaced.1 c.requires.boundary loop.written c.args.end loop.end c.args.out.now loop.out (omega (arith, c.loop-written-test.false, c.requires.window.fits)) loop.invariant.text
+    stored_after (replaced_packed c.requires.window c.requires.replaced.0 c.requires.replaced.1) c.loop-written.invariant (omega (arith, c.loop-written-test.false, c.requires.window.is_window.fits))
 
 pub loop-written-preserved : goal.loop-written-preserved
 loop-written-preserved g c =
     let loop = c.loop-written in
-    let small : loop.written + 16 ≤ 64 = omega (arith, loop.invariant.halves, c.loop-written-test.true, c.requires.window.fits) in
-    record {
-      halves = omega (arith, loop.invariant.halves);
-      within = small;
-      text =
-          half_written g.F.Flavor.flavor c.args.bytes.now c.args.at c.args.window c.requires.window (omega (arith, c.requires.bytes))
-          c.requires.replaced.0 c.requires.replaced.1 c.requires.boundary loop.written c.args.end loop.end c.store_replaced-end.result _ c.args.out.now loop.out
-          c.store_replaced-end.new.out small refl loop.invariant.text c.store_replaced-end.ensures;
-    }
+    let within : loop.written + 16 ≤ 64 = omega (arith, loop.invariant.whole, c.loop-written-test.true) in
+    half_stored c.requires.window c.requires.replaced.0 c.requires.replaced.1 loop.written c.args.end loop.end c.store_replaced-end.result _ c.args.out.now loop.out
+    c.store_replaced-end.new.out within refl loop.invariant c.store_replaced-end.ensures
 
 pub returns : goal.returns
 returns g c =
-    let loop = c.loop-written in
-    replaced_written g.F.Flavor.flavor c.args.bytes.now c.args.at c.args.window c.requires.window (omega (arith, c.requires.bytes))
-    c.requires.replaced.0 c.requires.replaced.1 c.requires.boundary loop.written c.args.end loop.end c.args.out.now loop.out (omega (arith, c.loop-written-test.false, c.requires.window.fits)) loop.invariant.text
-    (omega (arith, c.requires.room))
+    stored_text (replaced_packed c.requires.window c.requires.replaced.0 c.requires.replaced.1) c.loop-written.invariant (omega (arith, c.loop-written-test.false, c.requires.window.is_window.fits)) (omega (arith, c.requires.room))
