@@ -1,3 +1,4 @@
+-- The shifts move the digits of the pair to the bytes of the character's UTF-8 (`utf8_word_is`).
 use Rattle.std.proofs.Common.{◌≡◌, ◌∙◌, ◌+◌, ◌*◌, ◌<◌, ℕ, refl, get_or, arith}
 use Rattle.cesu8_bytes.proofs.chunks.PairWords.{utf8_word_is}
 use Rattle.cesu8_bytes.proofs.pairs.utf8_of_pair.Goals as goal
