@@ -1,3 +1,4 @@
+-- The definitions that contracts of this crate cite.
 pub mod Kernels
 pub mod Pairs
 pub mod TextChunks

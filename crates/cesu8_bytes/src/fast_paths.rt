@@ -28,14 +28,11 @@ use crate::lanes::short::are_short;
 use std::simd::prelude::*;
 
 /// The largest input that is checked inline for unchanged ASCII. From this length on,
-/// `contains_changed` searches four vectors at once.
+/// `needs_encoded` searches four vectors at once.
 const SHORT: usize = 4 * LANES;
 
 /// The largest input that a lenient call checks inline for ASCII.
 const TESTED_AT_ONCE: usize = 16 * LANES;
-
-/// The one vector that `begins_with_unchanged_ascii` loads. Longer strings have no such check.
-const SHOWN_AT_ONCE: usize = LANES;
 
 /// Returns whether there are at most 1,024 bytes, all of them ASCII.
 #[inline(always)]
@@ -69,18 +66,19 @@ pub fn begins_with_unchanged_ascii<F: Flavor>(bytes: &[u8], len: usize) -> bool
     ensures ascii { IsTrue result → IsAscii (take len bytes.now) }
     ensures unchanged { IsTrue result → ¬ (Any (IsChangedByte F.flavor) (take len bytes.now)) }
 {
-    len <= SHOWN_AT_ONCE
-        && bytes.len() >= SHOWN_AT_ONCE
-        && lanes_before::<Either<F::Null, NonAscii>, SHOWN_AT_ONCE>(Simd::from_slice(bytes)) >= len
+    len <= LANES
+        && bytes.len() >= LANES
+        && lanes_before::<Either<F::Null, NonAscii>, LANES>(Simd::from_slice(bytes)) >= len
 }
 
-/// Returns whether the encoding changes a byte of this UTF-8. Both branches search in the same way.
-/// In the first one, the compiler leaves out the loop over four vectors at once, which saves 129 to
-/// 255 bytes five or six instructions.
+/// Returns whether the encoding changes a character of the string. Both branches search in the same
+/// way. In the first one, the compiler leaves out the loop over four vectors at once, which saves
+/// 129 to 255 bytes five or six instructions.
 #[inline(always)]
-fn contains_changed<F: Flavor>(bytes: &[u8]) -> bool
-    ensures { IsTrue result ↔ Any (IsChangedByte F.flavor) bytes.now }
+pub fn needs_encoded<F: Flavor>(value: &str) -> bool
+    ensures { IsTrue result ↔ NeedsEncoding F.flavor (chars value.now) }
 {
+    let bytes = value.as_bytes();
     if bytes.len() < SHORT {
         any_in_bytes::<Either<F::Null, FourByteLead>>(bytes)
     } else {
@@ -88,19 +86,11 @@ fn contains_changed<F: Flavor>(bytes: &[u8]) -> bool
     }
 }
 
-/// Returns whether the encoding changes a character of the string.
-#[inline(always)]
-pub fn needs_encoded<F: Flavor>(value: &str) -> bool
-    ensures { IsTrue result ↔ NeedsEncoding F.flavor (chars value.now) }
-{
-    contains_changed::<F>(value.as_bytes())
-}
-
 /// Returns true if the encoding changes a character of the string. The contract allows it to return
 /// true otherwise. Callers have at most a block (32 bytes), so no loop is inlined. A string has no
 /// byte above F7 (hexadecimal), so one comparison finds a four-byte lead.
 #[inline(always)]
-pub fn few_need_encoded<F: Flavor>(value: &str) -> bool
+pub fn may_need_encoding<F: Flavor>(value: &str) -> bool
     ensures { NeedsEncoding F.flavor (chars value.now) → IsTrue result }
 {
     any_in_bytes::<Either<F::Null, AtLeastF0>>(value.as_bytes())

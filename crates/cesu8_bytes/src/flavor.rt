@@ -5,7 +5,7 @@ ghost use Rattle.cesu8_text.specs.Encoding.{Flavor as AnyFlavor, Cesu8, Mutf8};
 ghost use Rattle.cesu8_text.specs.Class.{is_null};
 ghost use Rattle.cesu8_bytes.specs.Kernels.{mask};
 
-use crate::lanes::class::{LANES, NoByte, Null, mask};
+use crate::lanes::class::{NoByte, Null, mask};
 use crate::lanes::count::CountsOne;
 use crate::lanes::groups::InGroups;
 use std::simd::prelude::*;
@@ -14,7 +14,7 @@ use std::simd::prelude::*;
 pub trait Flavor {
     /// The bytes 00 that are encoded as C0 80: none in CESU-8. `lengths` counts them, and `search`
     /// finds them.
-    type Null: CountsOne + InGroups<LANES>;
+    type Null: CountsOne + InGroups;
 
     ghost flavor: { AnyFlavor };
 

@@ -58,18 +58,18 @@ fn difference_by<const N: usize>(bytes: &[u8], other: &[u8], len: usize) -> usiz
     let last = len - N;
     let mut offset = 0;
     while offset < last {
-        let same = same_in_front::<N>(bytes, other, offset);
+        let same = equal_lanes::<N>(bytes, other, offset);
         if same < N {
             return offset + same;
         }
         offset += N;
     }
-    last + same_in_front::<N>(bytes, other, last)
+    last + equal_lanes::<N>(bytes, other, last)
 }
 
 /// Returns how many lanes of the two vectors at an offset are equal, before the first that differs.
 #[inline(always)]
-fn same_in_front<const N: usize>(bytes: &[u8], other: &[u8], offset: usize) -> usize
+fn equal_lanes<const N: usize>(bytes: &[u8], other: &[u8], offset: usize) -> usize
     requires lanes { N ≤ LANES }
     requires long { (offset + N ≤ length bytes.now) × (offset + N ≤ length other.now) }
     ensures within { result ≤ N }

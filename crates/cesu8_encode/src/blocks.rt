@@ -163,6 +163,14 @@ fn write_lanes(block: &EncodedBlock, count: usize, out: &mut [u8], end: usize) -
     put(&stored[..len], out, end)
 }
 
+// Expands to the row of eight bytes of a block: their lanes of `seconds`, and then their lanes of
+// `firsts`, which are numbered from 32 on.
+macro_rules! row {
+    ($block:ident, $($lane:literal)*) => {
+        $block.seconds.shuffle::<16>($block.firsts, [$($lane),*])
+    };
+}
+
 /// Stores the four rows of a block, and returns the end of the content for its first `count` bytes.
 #[inline(always)]
 fn store_block(block: &EncodedBlock, count: usize, out: &mut [u8], end: usize) -> usize
@@ -171,30 +179,14 @@ fn store_block(block: &EncodedBlock, count: usize, out: &mut [u8], end: usize) -
     ensures { WritesLanes block.now.seconds block.now.firsts block.now.doubled
         count end out.old out.new result }
 {
-    let (seconds, firsts, doubled) = (block.seconds, block.firsts, block.doubled);
-    let row = seconds.shuffle::<16>(
-        firsts,
-        [0, 1, 2, 3, 4, 5, 6, 7, 32, 33, 34, 35, 36, 37, 38, 39],
-    );
+    let doubled = block.doubled;
+    let row = row!(block, 0 1 2 3 4 5 6 7 32 33 34 35 36 37 38 39);
     let at = store_row(row, (doubled & 0xFF) as usize, out, end);
-    let row = seconds.shuffle::<16>(
-        firsts,
-        [8, 9, 10, 11, 12, 13, 14, 15, 40, 41, 42, 43, 44, 45, 46, 47],
-    );
+    let row = row!(block, 8 9 10 11 12 13 14 15 40 41 42 43 44 45 46 47);
     let at = store_row(row, (doubled >> 8 & 0xFF) as usize, out, at);
-    let row = seconds.shuffle::<16>(
-        firsts,
-        [
-            16, 17, 18, 19, 20, 21, 22, 23, 48, 49, 50, 51, 52, 53, 54, 55,
-        ],
-    );
+    let row = row!(block, 16 17 18 19 20 21 22 23 48 49 50 51 52 53 54 55);
     let at = store_row(row, (doubled >> 16 & 0xFF) as usize, out, at);
-    let row = seconds.shuffle::<16>(
-        firsts,
-        [
-            24, 25, 26, 27, 28, 29, 30, 31, 56, 57, 58, 59, 60, 61, 62, 63,
-        ],
-    );
+    let row = row!(block, 24 25 26 27 28 29 30 31 56 57 58 59 60 61 62 63);
     store_row(row, (doubled >> 24 & 0xFF) as usize, out, at);
     end + count + (doubled & ((1 << count) - 1)).count_ones() as usize
 }

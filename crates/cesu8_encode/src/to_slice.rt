@@ -9,7 +9,7 @@ use crate::blocks::BLOCK_ENCODED;
 use crate::blockwise::write;
 use crate::strategy::is_block;
 use cesu8_bytes::BLOCK;
-use cesu8_bytes::fast_paths::{few_need_encoded, needs_encoded};
+use cesu8_bytes::fast_paths::{may_need_encoding, needs_encoded};
 use cesu8_bytes::flavor::Flavor;
 use cesu8_bytes::lengths::encoded_len;
 use cesu8_bytes::writing::copies::{NoRoom, copy_to_slice};
@@ -23,22 +23,22 @@ pub fn encode_to_slice<F: Flavor>(text: &str, buf: &mut [u8]) -> Result<usize, N
     if is_block(text) {
         // The compiler knows that the test and the copy get at most 32 bytes, and leaves out the
         // rest.
-        if !few_need_encoded::<F>(text) {
+        if !may_need_encoding::<F>(text) {
             return copy_to_slice(text.as_bytes(), buf);
         }
-        return put_on_stack::<F>(text, buf);
+        return encode_block_to_slice::<F>(text, buf);
     }
     if !needs_encoded::<F>(text) {
         return copy_to_slice(text.as_bytes(), buf);
     }
-    put_in_place::<F>(text, buf)
+    encode_in_place::<F>(text, buf)
 }
 
 /// Encodes at most a block to the stack, and copies the result. It is not inlined, so that only a
 /// call clears the array.
 #[inline(never)]
 #[tactic(auto, using(cesu8_text::proofs::encoding::Lengths::length_encoding_chars))]
-fn put_on_stack<F: Flavor>(text: &str, buf: &mut [u8]) -> Result<usize, NoRoom>
+fn encode_block_to_slice<F: Flavor>(text: &str, buf: &mut [u8]) -> Result<usize, NoRoom>
     requires { length text.now ≤ BLOCK }
     ensures { PutsAnswer (encoding F.flavor (chars text.now)) result buf.old buf.new }
 {
@@ -51,7 +51,7 @@ fn put_on_stack<F: Flavor>(text: &str, buf: &mut [u8]) -> Result<usize, NoRoom>
 /// does not change uses no stack.
 #[inline(never)]
 #[tactic(auto, using(crate::proofs::encoder::EncodedLengths::no_shorter))]
-fn put_in_place<F: Flavor>(text: &str, buf: &mut [u8]) -> Result<usize, NoRoom>
+fn encode_in_place<F: Flavor>(text: &str, buf: &mut [u8]) -> Result<usize, NoRoom>
     ensures { PutsAnswer (encoding F.flavor (chars text.now)) result buf.old buf.new }
 {
     let len = encoded_len::<F>(text);

@@ -1,3 +1,4 @@
+-- The definitions, in reading order: texts, their encoding, classes of bytes, decoding, laws.
 pub mod Text
 pub mod Utf16
 pub mod Encoding

@@ -37,10 +37,10 @@ high_surrogate_test : (x : ℕ) → x < 0x100 → eqb (bit_and x 0xF0) 0xA0 ≡ 
 high_surrogate_test x h = agree_below_at (λ x. eqb (bit_and x 0xF0) 0xA0) (λ x. leb 0xA0 x && ltb x 0xB0) 0x100 x refl h
 
 -- A word passes the test if and only if its bytes begin with a surrogate pair.
-pub word_tells : (bytes : List ℕ) (more : ℕ) → ((i : ℕ) → get_or bytes i 0 < 0x100) →
+pub word_decides : (bytes : List ℕ) (more : ℕ) → ((i : ℕ) → get_or bytes i 0 < 0x100) →
     (bit_and (word_of (get_or bytes 0 0) (get_or bytes 1 0) (get_or bytes 2 0) (get_or bytes 3 0) (get_or bytes 4 0) (get_or bytes 5 0) more) 0xC0F0FFC0F0FF
     ≡ 0x80B0ED80A0ED) ↔ HasPair bytes
-word_tells bytes more byte =
+word_decides bytes more byte =
     let is = masked _ _ _ _ _ _ more (byte 0) (byte 1) (byte 2) (byte 3) (byte 4) (byte 5) in
     let second = high_surrogate_test _ (byte 1) in
     let third = continues_by_bits _ (byte 2) in

@@ -36,16 +36,16 @@ chunked P n xs chunks rest e f =
 
 module _ {X : Type 0} (P : X → Type 0) (n : ℕ) (xs : List X) (chunks : List (List X)) (rest : List X) (found : Bool)
     (front : chunks ≡ first_chunks n (length xs / n) xs) (back : rest ≡ drop (length xs / n * n) xs)
-    (tells : IsTrue found ↔ Any (Any P) chunks) where
+    (decides : IsTrue found ↔ Any (Any P) chunks) where
   -- If a test finds such an element in the chunks, the list has one.
   pub found_in_chunks : found ≡ true → Any P xs
-  found_in_chunks t = (chunked P n xs chunks rest front back).1 (inl (tells.0 t))
+  found_in_chunks t = (chunked P n xs chunks rest front back).1 (inl (decides.0 t))
 
   -- If a test finds none in the chunks, the rest decides.
   pub left_by_chunks : found ≡ false → Any P rest ↔ Any P xs
   left_by_chunks none =
       let cut = chunked P n xs chunks rest front back in
-      ((λ p. cut.1 (inr p)), (λ p. ⊎_elim (λ q. absurd (iff_false tells none q)) (λ q. q) (cut.0 p)))
+      ((λ p. cut.1 (inr p)), (λ p. ⊎_elim (λ q. absurd (iff_false decides none q)) (λ q. q) (cut.0 p)))
 
 -- If the rest is empty, no element of it has P.
 pub nothing_left : {X : Type 0} (P : X → Type 0) (rest : List X) → length rest ≡ 0 → IsTrue false ↔ Any P rest

@@ -55,13 +55,13 @@ continues_by_bits b h = agree_below_at (λ b. eqb (bit_and b 0xC0) 0x80) (λ b. 
 pub masked_marks : (class : ℕ → Bool) (bits byte : ℕ) → ((b : ℕ) → b < 0x100 → eqb (bit_and b bits) byte ≡ class b) →
     (n : ℕ) (bytes : List ℕ) → length bytes ≡ n → Each1 (Fits w8) bytes →
     map (to_z w8) (zip2 equal (zip2 bit_and bytes (replicate n bits)) (replicate n byte)) ≡ marks_of class bytes
-masked_marks class bits byte told n bytes long fits =
+masked_marks class bits byte by_bits n bytes long fits =
     let masked = zip2_splat bit_and bytes n bits long in
     marked class bytes _ (
     zip2_splat equal _ n byte (ap length masked ∙ length-map bytes (λ b. bit_and b bits) ∙ long)
     ∙ ap (map (λ b. equal b byte)) masked
     ∙ map-map (λ b. equal b byte) (λ b. bit_and b bits) bytes
-    ∙ map_agree _ _ bytes (Each1-weaker (Fits w8) _ (λ b h. ap ones (told b h.fits)) bytes fits)
+    ∙ map_agree _ _ bytes (Each1-weaker (Fits w8) _ (λ b h. ap ones (by_bits b h.fits)) bytes fits)
     )
 
 -- Joining two lanes by bits joins their tests.

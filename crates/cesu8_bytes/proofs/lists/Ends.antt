@@ -17,9 +17,9 @@ any_later P a b xs order any =
     any_drop P (b - a) (drop a xs) (subst (Any P) (sym (drop-drop (b - a) a xs ∙ ap (λ i. drop i xs) index)) any)
 
 -- Tests of the first n elements and of the last n decide for the whole, if together they cover it.
-pub ends_tell : (P : ℕ → Type 0) (n : ℕ) (xs : List ℕ) (front end : Bool) → n ≤ length xs → length xs ≤ 2 * n →
+pub found_in_ends : (P : ℕ → Type 0) (n : ℕ) (xs : List ℕ) (front end : Bool) → n ≤ length xs → length xs ≤ 2 * n →
     (IsTrue front ↔ Any P (take n xs)) → (IsTrue end ↔ Any P (drop (length xs - n) xs)) → IsTrue (front || end) ↔ Any P xs
-ends_tell P n xs front end fits covers f e = (
+found_in_ends P n xs front end fits covers f e = (
   (λ t. ⊎_elim (λ p. subst (Any P) (take-append-drop n xs) (any_left P (take n xs) (drop n xs) (f.0 p)))
       (λ p. any_drop P (length xs - n) xs (e.0 p)) (or_cases front end t)),
   (λ any. ⊎_elim (λ p. or_left front end (f.1 p))

@@ -27,13 +27,13 @@ first_written run at n bytes old new le room put = record {
 }
 
 -- Storing a vector does not change the bytes after it.
-pub behind_stored : (at m : ℕ) (out lanes : List ℕ) → at + length lanes ≤ m → drop m (put_chunk at out lanes) ≡ drop m out
-behind_stored at m [] lanes le = refl
-behind_stored zero m (x ∷ out) [] le = refl
-behind_stored zero zero (x ∷ out) (y ∷ lanes) le = absurd (omega arith)
-behind_stored zero (suc m) (x ∷ out) (y ∷ lanes) le = behind_stored zero m out lanes (omega arith)
-behind_stored (suc at) zero (x ∷ out) lanes le = absurd (omega arith)
-behind_stored (suc at) (suc m) (x ∷ out) lanes le = behind_stored at m out lanes (omega arith)
+pub unchanged_after_store : (at m : ℕ) (out lanes : List ℕ) → at + length lanes ≤ m → drop m (put_chunk at out lanes) ≡ drop m out
+unchanged_after_store at m [] lanes le = refl
+unchanged_after_store zero m (x ∷ out) [] le = refl
+unchanged_after_store zero zero (x ∷ out) (y ∷ lanes) le = absurd (omega arith)
+unchanged_after_store zero (suc m) (x ∷ out) (y ∷ lanes) le = unchanged_after_store zero m out lanes (omega arith)
+unchanged_after_store (suc at) zero (x ∷ out) lanes le = absurd (omega arith)
+unchanged_after_store (suc at) (suc m) (x ∷ out) lanes le = unchanged_after_store at m out lanes (omega arith)
 
 -- Vectors stored at both ends of some bytes, which together cover them, store all of them.
 pub ends_stored : (n : ℕ) (bytes out : List ℕ) → n ≤ length bytes → length bytes ≤ 2 * n → length bytes ≤ length out →
@@ -49,7 +49,7 @@ ends_stored n bytes out many few room =
     let before : take at first ≡ take at bytes =
     grind (arith, take-take at n first (omega arith), take-take at n bytes (omega arith), take_more_put_chunk 0 out (take n bytes) n (omega arith) (omega arith)) in
     let prefix = take_more_put_chunk at first end len (omega arith) (omega (arith, length-put_chunk 0 out (take n bytes))) in
-    let behind = behind_stored at len first end (omega arith) ∙ behind_stored 0 len out (take n bytes) (omega arith) in
+    let behind = unchanged_after_store at len first end (omega arith) ∙ unchanged_after_store 0 len out (take n bytes) (omega arith) in
     grind (arith, take-append-drop at bytes, take-append-drop len second, before, prefix, behind)
 
 -- Bytes that are appended, truncated to an index and appended again from there on are appended

@@ -106,10 +106,10 @@ zero_test w l =
     let bytes = to_le_bytes w64 w in
     let word = word_of_bytes w l in
     let flipped : inverted bytes ≡ 0xFFFFFFFFFFFFFFFF - w = omega (arith, inverse bytes (are_bytes w)) in
-    let tells = zero_marks bytes (are_bytes w) d (1 - (w + 0xFEFEFEFEFEFEFEFF) / 2 ^ 64) (omega arith) in
+    let decides = zero_marks bytes (are_bytes w) d (1 - (w + 0xFEFEFEFEFEFEFEFF) / 2 ^ 64) (omega arith) in
     let same : marked d bytes ≡ bit_and (bit_and d (0xFFFFFFFFFFFFFFFF - w)) 0x8080808080808080 =
     ap (λ x. bit_and (bit_and d x) 0x8080808080808080) flipped in
-    ((λ some. tells.0 (λ none. some (sym same ∙ none))), (λ p none. tells.1 p (same ∙ none)))
+    ((λ some. decides.0 (λ none. some (sym same ∙ none))), (λ p none. decides.1 p (same ∙ none)))
 
 -- A test of a number against 0.
 pub not_zero : (n : ℕ) → IsTrue (not (eqb n 0)) ↔ (n ≡ 0 → ⊥)

@@ -53,11 +53,11 @@ kept_written : (g : ℕ → ℕ) (gone ill_formed : List Bool) (i : ℕ) → len
 kept_written g [] ill_formed i e r = refl
 kept_written g (s ∷ gone) [] i e r = absurd (omega arith)
 kept_written g (s ∷ gone) (d ∷ ill_formed) i e r =
-    let goes = lowest s (mask_l gone) in
-    let fails = lowest d (mask_l ill_formed) in
+    let dropped = lowest s (mask_l gone) in
+    let replaced = lowest d (mask_l ill_formed) in
     let here = λ (is : d ≡ true). r (grind arith) in
-    let behind = λ (some : 0 < mask_l ill_formed). r (omega arith) in
-    rw (goes.0, goes.1, fails.0, fails.1) (kept_one g i s d _ _ here (kept_written g gone ill_formed (i + 1) (omega arith) behind))
+    let later = λ (some : 0 < mask_l ill_formed). r (omega arith) in
+    rw (dropped.0, dropped.1, replaced.0, replaced.1) (kept_one g i s d _ _ here (kept_written g gone ill_formed (i + 1) (omega arith) later))
 
 -- The lanes that two sets keep are what is written for the tests whose masks the sets are.
 pub lanes_written : (n gone_set ill_formed_set : ℕ) (lanes : List ℕ) (gone ill_formed : List Bool) → length gone ≡ n → length ill_formed ≡ n →
@@ -70,16 +70,16 @@ lanes_written n gone_set ill_formed_set lanes gone ill_formed g d gone_is ill_fo
 
 -- Whether at most so many lanes are kept for a set.
 unfoldable pub is_short : (ℕ → List ℕ) → ℕ → ℕ → Bool
-is_short kept most set = leb (length (kept set)) most
+is_short kept bound set = leb (length (kept set)) bound
 
 -- If a computation over all 256 sets says so, at most so many lanes are kept for each.
-pub at_most : (kept : ℕ → List ℕ) (most : ℕ) → agree_below (is_short kept most) (λ _. true) 0x100 ≡ true →
-    (set : ℕ) → set < 0x100 → length (kept set) ≤ most
+pub at_most : (kept : ℕ → List ℕ) (bound : ℕ) → agree_below (is_short kept bound) (λ _. true) 0x100 ≡ true →
+    (set : ℕ) → set < 0x100 → length (kept set) ≤ bound
 unfolding is_short
-at_most kept most e set l = leb-true _ _ (agree_below_at (is_short kept most) (λ _. true) 0x100 set e l)
+at_most kept bound e set l = leb-true _ _ (agree_below_at (is_short kept bound) (λ _. true) 0x100 set e l)
 
-module _ (n gone_set ill_formed_set most : ℕ) (row : List ℕ) (row_is : row ≡ shuffle_keeping (kept_of gone_set ill_formed_set 0 n))
-    (few : length (kept_of gone_set ill_formed_set 0 n) ≤ most) (fits : most ≤ 15) where
+module _ (n gone_set ill_formed_set bound : ℕ) (row : List ℕ) (row_is : row ≡ shuffle_keeping (kept_of gone_set ill_formed_set 0 n))
+    (few : length (kept_of gone_set ill_formed_set 0 n) ≤ bound) (fits : bound ≤ 15) where
   abbrev kept : List ℕ
   kept = kept_of gone_set ill_formed_set 0 n
 
@@ -96,7 +96,7 @@ module _ (n gone_set ill_formed_set most : ℕ) (row : List ℕ) (row_is : row �
   last_is = ap (λ r. get_or r 15 0) row_is ∙ get_or_at (kept ++ zeros) (length kept) [] 0 15 prefix_long
 
   -- The last number of a row is at most the bound.
-  pub end_of_row : get_or row 15 0 ≤ most
+  pub end_of_row : get_or row 15 0 ≤ bound
   end_of_row = omega (arith, last_is)
 
   -- Storing all lanes of a row writes those that it keeps.
@@ -105,12 +105,12 @@ module _ (n gone_set ill_formed_set most : ℕ) (row : List ℕ) (row_is : row �
   row_written lanes out packed at room is =
       let long : length (lanes_at lanes row) ≡ 16 =
       omega (arith, length-map row (λ j. get_or lanes (j % 0x10) 0), ap length row_is, length-append (kept ++ zeros) (length kept ∷ []), prefix_long) in
-      rw is (subst (λ bs. WritesAt bs at out (put_chunk at out (lanes_at lanes row)) (at + get_or row 15 0)) (front_is lanes)
+      rw is (subst (λ bs. WritesAt bs at out (put_chunk at out (lanes_at lanes row)) (at + get_or row 15 0)) (prefix_is lanes)
       (first_written (get_or row 15 0) at (at + 16) (lanes_at lanes row) out _ (omega (arith, end_of_row)) (omega arith)
       (vector_written at (at + 16) (lanes_at lanes row) out (omega arith) room)))
     where
-      front_is : (lanes : List ℕ) → take (get_or row 15 0) (lanes_at lanes row) ≡ lanes_at lanes kept
-      front_is lanes = grind (arith, common_steps, last_is, length-map, map-append, take_at, append_assoc)
+      prefix_is : (lanes : List ℕ) → take (get_or row 15 0) (lanes_at lanes row) ≡ lanes_at lanes kept
+      prefix_is lanes = grind (arith, common_steps, last_is, length-map, map-append, take_at, append_assoc)
 
 -- ---- eight bytes
 
@@ -119,9 +119,9 @@ abbrev kept_of_eight : ℕ → List ℕ
 kept_of_eight gone = kept_of gone 0 0 8
 
 -- A row of eight bytes keeps at most eight lanes.
-pub few_of_eight : (gone : ℕ) → gone < 0x100 → length (kept_of_eight gone) ≤ 8
+pub at_most_eight : (gone : ℕ) → gone < 0x100 → length (kept_of_eight gone) ≤ 8
 unfolding is_short
-few_of_eight = at_most kept_of_eight 8 refl
+at_most_eight = at_most kept_of_eight 8 refl
 
 -- ---- bytes in parts
 

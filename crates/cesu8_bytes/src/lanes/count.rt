@@ -62,7 +62,7 @@ fn long_weight<C: CountsOne>(value: &[u8]) -> usize
         weight += block_weight::<C>(block);
         rest = after;
     }
-    weight + rest_weight::<C>(rest)
+    weight + remainder_weight::<C>(rest)
 }
 
 /// Returns the sum of the weights of a block. Each lane counts its own bytes.
@@ -93,7 +93,7 @@ fn lane_sum(lanes: u8x64) -> usize
 
 /// Returns the sum of the weights of what is left after the blocks, vector by vector.
 #[inline(always)]
-fn rest_weight<C: CountsOne>(value: &[u8]) -> usize
+fn remainder_weight<C: CountsOne>(value: &[u8]) -> usize
     ensures { result ≡ sum_by (weight_of C.class) value.now }
 {
     let whole = value.len() / LANES;

@@ -8,10 +8,8 @@ ghost use Rattle.cesu8_bytes.specs.Padded.{ends_of};
 
 use super::short::end_vector;
 use crate::BLOCK;
+use crate::writing::packing::HALF;
 use std::simd::prelude::*;
-
-/// Half a block: the 16 lanes that `swizzle_dyn_within` selects from. The tables have this size.
-const HALF: usize = BLOCK / 2;
 
 /// The index that selects no lane and gives 0.
 const E: u8 = 128;
@@ -59,7 +57,7 @@ fn in_ends() -> &'static [[u8; HALF]; HALF]
 
 /// Returns fewer than 16 bytes, padded with zeros.
 #[inline(always)]
-fn padded_few(bytes: &[u8]) -> u8x16
+fn padded_sixteen(bytes: &[u8]) -> u8x16
     requires { length bytes.now < HALF }
     ensures { result ≡ bytes.now ++ replicate (HALF - length bytes.now) 0 }
 {
@@ -104,7 +102,7 @@ pub fn padded_half(bytes: &[u8]) -> u8x32
     ensures { result ≡ bytes.now ++ replicate (BLOCK - length bytes.now) 0 }
 {
     if bytes.len() < HALF {
-        return padded_few(bytes).shuffle::<BLOCK>(u8x16::splat(0), BOTH_HALVES);
+        return padded_sixteen(bytes).shuffle::<BLOCK>(u8x16::splat(0), BOTH_HALVES);
     }
     // A load must not pass the end of the slice. So the second half is loaded up to the end, and
     // the shuffle removes what it shares with the first half.

@@ -37,7 +37,7 @@ const GROUP: usize = 4 * LANES;
 /// stop at a group that has none. If the first 64 bytes have one, as they mostly do, nothing else
 /// is tested.
 #[inline(always)]
-pub fn run_of_groups<C: InGroups<LANES>>(bytes: &[u8]) -> usize
+pub fn run_of_groups<C: InGroups>(bytes: &[u8]) -> usize
     ensures within { (result ≤ length bytes.now) × (0 < result → GROUP ≤ result) }
     ensures run { (i : ℕ) → i < result → C.class (slice_index bytes.now i) ≡ false }
 {
@@ -53,7 +53,7 @@ pub fn run_of_groups<C: InGroups<LANES>>(bytes: &[u8]) -> usize
 
 /// Returns true if one of the first 256 bytes is in the class. It may also return true otherwise.
 #[inline(always)]
-fn group_may_have<C: InGroups<LANES>>(bytes: &[u8]) -> bool
+fn group_may_have<C: InGroups>(bytes: &[u8]) -> bool
     requires { GROUP ≤ length bytes.now }
     ensures { result ≡ false → (i : ℕ) → i < GROUP → C.class (slice_index bytes.now i) ≡ false }
 {

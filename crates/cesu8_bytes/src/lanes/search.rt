@@ -15,7 +15,7 @@ use std::simd::prelude::*;
 
 /// Returns whether some byte is in the class.
 #[inline(always)]
-pub fn any_in_bytes<C: InAllVectors + InGroups<LANES>>(bytes: &[u8]) -> bool
+pub fn any_in_bytes<C: InAllVectors + InGroups>(bytes: &[u8]) -> bool
     ensures { IsTrue result ↔ AnyIn C.class bytes.now }
 {
     if are_short(bytes) {
@@ -29,34 +29,31 @@ pub fn any_in_bytes<C: InAllVectors + InGroups<LANES>>(bytes: &[u8]) -> bool
 
 /// Returns whether some byte of more than 64 is in the class: of a whole vector, or of the last 64.
 #[inline(always)]
-pub fn any_in_long<C: InGroups<LANES>>(bytes: &[u8]) -> bool
+pub fn any_in_long<C: InGroups>(bytes: &[u8]) -> bool
     requires { LANES < length bytes.now }
     ensures { IsTrue result ↔ AnyIn C.class bytes.now }
 {
     let (chunks, _) = bytes.as_chunks::<LANES>();
     let end = end_vector::<LANES>(bytes);
-    any_in_chunks::<C, LANES>(chunks) || has::<C, LANES>(end)
+    any_in_chunks::<C>(chunks) || has::<C, LANES>(end)
 }
 
 /// Returns whether some byte of the chunks is in the class, testing four chunks at once.
 #[inline(always)]
-pub fn any_in_chunks<C: InGroups<N>, const N: usize>(chunks: &[[u8; N]]) -> bool
-    requires { N ≤ LANES }
+pub fn any_in_chunks<C: InGroups>(chunks: &[[u8; LANES]]) -> bool
     ensures { IsTrue result ↔ Any (AnyIn C.class) chunks.now }
 {
     let (groups, rest) = chunks.as_chunks::<4>();
-    any_in_groups::<C, N>(groups) || any_in_each::<C, N>(rest)
+    any_in_groups::<C>(groups) || any_in_each::<C, LANES>(rest)
 }
 
-/// Returns whether some byte of the group is in the class. In most groups one test of all four
-/// chunks finds none, and only the others are tested chunk by chunk.
+/// Returns whether some byte of the groups is in the class.
 #[inline(always)]
-fn any_in_groups<C: InGroups<N>, const N: usize>(groups: &[[[u8; N]; 4]]) -> bool
-    requires { N ≤ LANES }
+fn any_in_groups<C: InGroups>(groups: &[[[u8; LANES]; 4]]) -> bool
     ensures { IsTrue result ↔ Any (Any (AnyIn C.class)) groups.now }
 {
     for group in groups {
-        if any_in_group::<C, N>(group) {
+        if any_in_group::<C>(group) {
             return true;
         }
     }
@@ -66,19 +63,18 @@ fn any_in_groups<C: InGroups<N>, const N: usize>(groups: &[[[u8; N]; 4]]) -> boo
 /// Returns whether some byte of the group is in the class. Most groups are rejected by one test of
 /// all four chunks, and only the others are tested chunk by chunk.
 #[inline(always)]
-fn any_in_group<C: InGroups<N>, const N: usize>(group: &[[u8; N]; 4]) -> bool
-    requires { N ≤ LANES }
+fn any_in_group<C: InGroups>(group: &[[u8; LANES]; 4]) -> bool
     ensures { IsTrue result ↔ Any (AnyIn C.class) group.now }
 {
     let [a, b, c, d] = *group;
     let (a, b) = (Simd::from_array(a), Simd::from_array(b));
     let (c, d) = (Simd::from_array(c), Simd::from_array(d));
-    C::may_have(a, b, c, d) && any_in_each::<C, N>(group)
+    C::may_have(a, b, c, d) && any_in_each::<C, LANES>(group)
 }
 
 /// Returns whether some byte of the chunks is in the class, testing each chunk.
 #[inline(always)]
-fn any_in_each<C: InVectors<N>, const N: usize>(chunks: &[[u8; N]]) -> bool
+pub(crate) fn any_in_each<C: InVectors<N>, const N: usize>(chunks: &[[u8; N]]) -> bool
     requires { N ≤ LANES }
     ensures { IsTrue result ↔ Any (AnyIn C.class) chunks.now }
 {

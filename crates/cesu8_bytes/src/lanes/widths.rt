@@ -4,23 +4,25 @@
 ghost use Rattle.std.specs.Prelude.{◌≡◌, ◌≤◌, ◌<◌, ◌↔◌, IsTrue, IfSome, IfNone, length};
 ghost use Rattle.cesu8_bytes.specs.Kernels.{AnyIn, MayTest, Finds};
 
-use super::class::LANES;
+use super::class::{InAllVectors, InVectors, LANES};
 use super::groups::InGroups;
-use super::search::any_in_chunks;
+use super::search::{any_in_chunks, any_in_each};
 
 /// Returns whether some byte is in a class. Vectors of 64 bytes test as many whole chunks as there
 /// are, narrower vectors test the bytes that are left, and `fallback` tests a single byte at the end.
 #[inline(always)]
-pub fn any_by_widths<C, F: Fn(&[u8]) -> bool>(value: &[u8], fallback: F) -> bool
+pub fn any_by_widths<C, F>(value: &[u8], fallback: F) -> bool
 where
-    C: InGroups<64> + InGroups<32> + InGroups<16> + InGroups<8> + InGroups<4> + InGroups<2>,
+    C: InAllVectors + InGroups,
+    F: Fn(&[u8]) -> bool,
     requires { MayTest (λ len. len ≡ 1) F.Fn fallback }
     ensures { Finds (λ len. len ≡ 1) F.Fn fallback C.class
         → IsTrue result ↔ AnyIn C.class value.now }
 {
-    let Some(rest) = left_by::<C, 64>(value) else {
+    let (chunks, rest) = value.as_chunks::<LANES>();
+    if any_in_chunks::<C>(chunks) {
         return true;
-    };
+    }
     let Some(rest) = left_by::<C, 32>(rest) else {
         return true;
     };
@@ -41,14 +43,14 @@ where
 
 /// Returns the bytes after the whole chunks, or `None` if some byte of a chunk is in the class.
 #[inline(always)]
-fn left_by<C: InGroups<N>, const N: usize>(bytes: &[u8]) -> Option<&[u8]>
+fn left_by<C: InVectors<N>, const N: usize>(bytes: &[u8]) -> Option<&[u8]>
     requires { (0 < N) × (N ≤ LANES) }
     ensures left { IfSome result (λ rest. (length rest.now < N)
         × (AnyIn C.class rest.now ↔ AnyIn C.class bytes.now)) }
     ensures found { IfNone result (AnyIn C.class bytes.now) }
 {
     let (chunks, rest) = bytes.as_chunks::<N>();
-    if any_in_chunks::<C, N>(chunks) {
+    if any_in_each::<C, N>(chunks) {
         return None;
     }
     Some(rest)

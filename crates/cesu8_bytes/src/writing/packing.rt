@@ -14,7 +14,7 @@ use std::simd::prelude::*;
 /// The bytes that a packed row stores. The last of them may be garbage: buffers have room for them.
 pub const STORED: usize = 16;
 
-/// Half the bytes of a block.
+/// Half a block: the 16 lanes that `swizzle_dyn_within` selects from. The tables have this size.
 pub const HALF: usize = BLOCK / 2;
 
 /// Stores 32 bytes without those that are dropped, and returns the offset after them. Bit `i` of

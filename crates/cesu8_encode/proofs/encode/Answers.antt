@@ -1,3 +1,4 @@
+-- The new vector is empty and has capacity for the whole encoding, so appending it fits.
 use Rattle.std.proofs.Common.{arith}
 use Rattle.cesu8_encode.proofs.encode.Goals as goal
 

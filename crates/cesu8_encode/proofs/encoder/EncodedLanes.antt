@@ -140,9 +140,9 @@ pub doubled_bits : (a b c : ℕ → Bool) → ((v : ℕ) → (a v && c v) ≡ fa
     ≡ mask_l (map (λ v. (a v || b v) || c v) vs)
 doubled_bits a b c apart vs long =
     let lanes = doubled_vector (map (λ v. mask (a v)) vs) (map (λ v. mask (b v)) vs) (map (λ v. mask (c v)) vs) in
-    let tell = doubled_lanes a b c apart vs in
-    let all = sym (length-map lanes (λ x. eqb x 0xFF)) ∙ ap length tell ∙ length-map vs (λ v. (a v || b v) || c v) ∙ long in
-    bitmask_splat w8 eqb lanes 32 255 all (omega arith) ∙ ap mask_l tell
+    let tests_are = doubled_lanes a b c apart vs in
+    let all = sym (length-map lanes (λ x. eqb x 0xFF)) ∙ ap length tests_are ∙ length-map vs (λ v. (a v || b v) || c v) ∙ long in
+    bitmask_splat w8 eqb lanes 32 255 all (omega arith) ∙ ap mask_l tests_are
 
 -- A lead byte is not null.
 pub lead_or_null : (f : Flavor) (b : ℕ) → (is_at_least_f0 b && is_null f b) ≡ false

@@ -171,12 +171,12 @@ module _ (f : Flavor) (text : List ℕ) where
       ap (λ m. get_or around m 0) there)
 
   -- What is written for the next n bytes fits after what is written for the first i.
-  pub room_behind : (i n end : ℕ) (out piece : List ℕ) → piece ≡ encoded_bytes f around i n → i + n ≤ length text → IsWritten f text i out end →
+  pub room_after : (i n end : ℕ) (out piece : List ℕ) → piece ≡ encoded_bytes f around i n → i + n ≤ length text → IsWritten f text i out end →
       length (recoded f text) ≤ length out → end + length piece ≤ length out
-  room_behind i n end out piece same le written room =
+  room_after i n end out piece same le written room =
       grind (arith, same, written.0, length-take-le end out written.1, room_for_parts f around 0 i n (length text) le)
 
   -- After what is written for n more bytes is appended, the first i + n bytes are written.
-  pub written_behind : (i n end after : ℕ) (old out piece : List ℕ) → IsWritten f text i old end →
+  pub written_after : (i n end after : ℕ) (old out piece : List ℕ) → IsWritten f text i old end →
       take after out ≡ take end old ++ piece → piece ≡ encoded_bytes f around i n → after ≤ length out → IsWritten f text (i + n) out after
-  written_behind i n end after old out piece written is piece_is within = grind (arith, nat_tests, common_steps, encoded_bytes_append)
+  written_after i n end after old out piece written is piece_is within = grind (arith, nat_tests, common_steps, encoded_bytes_append)

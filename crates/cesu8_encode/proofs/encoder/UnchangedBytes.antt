@@ -18,19 +18,19 @@ abbrev changes : Flavor → ℕ → Bool
 changes f b = is_null f b || is_at_least_f0 b
 
 -- A byte is written unchanged if `changes` is false for it and for the two bytes before it.
-stays : (f : Flavor) (x y b n : ℕ) → changes f x ≡ false → changes f y ≡ false → changes f b ≡ false → encoded_byte f x y b n ≡ b ∷ []
-stays f x y b n hx hy hb = grind (arith, nat_tests, common_steps, or_parts, or_zero)
+unchanged_byte : (f : Flavor) (x y b n : ℕ) → changes f x ≡ false → changes f y ≡ false → changes f b ≡ false → encoded_byte f x y b n ≡ b ∷ []
+unchanged_byte f x y b n hx hy hb = grind (arith, nat_tests, common_steps, or_parts, or_zero)
 
 -- All n bytes are written unchanged if `changes` is false for them and for the two bytes before
 -- them.
-all_stay : (f : Flavor) (window : List ℕ) (i n : ℕ) → ((k : ℕ) → i ≤ k → k < i + (n + 2) → changes f (get_or window k 0) ≡ false) →
+all_unchanged : (f : Flavor) (window : List ℕ) (i n : ℕ) → ((k : ℕ) → i ≤ k → k < i + (n + 2) → changes f (get_or window k 0) ≡ false) →
     flat_map (encoded_byte_at f window) (range_with_len i n) ≡ map (λ j. get_or window (j + 2) 0) (range_with_len i n)
-all_stay f window i zero h = refl
-all_stay f window i (suc n) h =
+all_unchanged f window i zero h = refl
+all_unchanged f window i (suc n) h =
     rw (
-      stays f (get_or window i 0) (get_or window (i + 1) 0) (get_or window (i + 2) 0) (get_or window (i + 3) 0)
+      unchanged_byte f (get_or window i 0) (get_or window (i + 1) 0) (get_or window (i + 2) 0) (get_or window (i + 3) 0)
           (h i (omega arith) (omega arith)) (h (i + 1) (omega arith) (omega arith)) (h (i + 2) (omega arith) (omega arith)),
-      all_stay f window (i + 1) n (λ k from to. h k (omega arith) (omega arith)),
+      all_unchanged f window (i + 1) n (λ k from to. h k (omega arith) (omega arith)),
     ) refl
 
 -- A block is unchanged if none of its bytes changes, nor one of the two before it.
@@ -41,4 +41,4 @@ unfolding encoded_bytes
 unchanged_block f null window at n are room none =
     let none_here : AnyIn (changes f) (chunk at (n + 2) window) → ⊥ = λ any.
     none (any.0, any.1, any.2, any.3, ap (λ (p : ℕ → Bool). p any.1 || is_at_least_f0 any.1) are ∙ any.4) in
-    all_stay f window at n (none_loaded (changes f) window at (n + 2) (omega arith) none_here) ∙ sym (loaded window at 2 n room)
+    all_unchanged f window at n (none_loaded (changes f) window at (n + 2) (omega arith) none_here) ∙ sym (loaded window at 2 n room)

@@ -33,11 +33,11 @@ shows f c scalar =
     (grind (arith, nat_tests), λ needs. (0, get_or (utf8_of c) 0 0, grind (arith, nat_tests), grind (arith, nat_tests), grind (arith, nat_tests)))
 
 -- A text needs encoding if and only if its UTF-8 has a byte that changes.
-pub shows_need : (f : Flavor) (text : List ℕ) → IsText text → Any (IsChangedByte f) (utf8 text) ↔ NeedsEncoding f text
-shows_need f [] is_text = grind (arith, any_nil (IsChangedByte f), any_nil (IsEncodedOtherwise f))
-shows_need f (c ∷ text) is_text =
+pub needs_by_changed_byte : (f : Flavor) (text : List ℕ) → IsText text → Any (IsChangedByte f) (utf8 text) ↔ NeedsEncoding f text
+needs_by_changed_byte f [] is_text = grind (arith, any_nil (IsChangedByte f), any_nil (IsEncodedOtherwise f))
+needs_by_changed_byte f (c ∷ text) is_text =
     let here = shows f c is_text.0 in
-    let there = shows_need f text is_text.1 in (
+    let there = needs_by_changed_byte f text is_text.1 in (
       (λ changed. ⊎_elim (λ first. any_here _ c text (here.0 first)) (λ later. any_there _ c text (there.0 later))
           (any_append (IsChangedByte f) (utf8_of c) (utf8 text) changed)),
       (λ needs. ⊎_elim (λ first. any_left _ (utf8_of c) (utf8 text) (here.1 first))
@@ -78,7 +78,7 @@ module _ (f : Flavor) (bytes : List ℕ) (is_utf8 : IsUtf8 bytes) where
   -- The string's bytes decide whether it needs encoding.
   pub needs_by_bytes : Any (IsChangedByte f) bytes ↔ NeedsEncoding f (chars bytes)
   needs_by_bytes =
-      let of_chars = IsUtf8Of_chars bytes is_utf8 in rw of_chars.1 at (shows_need f (chars bytes) of_chars.0)
+      let of_chars = IsUtf8Of_chars bytes is_utf8 in rw of_chars.1 at (needs_by_changed_byte f (chars bytes) of_chars.0)
 
   -- A test for a byte that changes decides whether the string needs encoding.
   pub needs_by_test : (R : Type 0) → R ↔ Any (IsChangedByte f) bytes → R ↔ NeedsEncoding f (chars bytes)

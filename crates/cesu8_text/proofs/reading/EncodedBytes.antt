@@ -9,7 +9,7 @@ use Rattle.cesu8_text.specs.Encoding.{Flavor, Mutf8, form, encoding}
 use Rattle.cesu8_text.specs.Laws.{SameText}
 use Rattle.cesu8_text.specs.Class.{IsChangedByte}
 use Rattle.cesu8_text.proofs.encoding.Encodings.{encoding_nil, encoding_cons}
-use Rattle.cesu8_text.proofs.encoding.NeedsEncoding.{unchanged, shows_need, encoding_same}
+use Rattle.cesu8_text.proofs.encoding.NeedsEncoding.{unchanged, needs_by_changed_byte, encoding_same}
 use Rattle.cesu8_text.proofs.reading.EncodedTexts.{encoding_injective}
 
 -- A byte that an encoding can have.
@@ -38,4 +38,4 @@ pub same_in_both : SameText
 same_in_both f bytes text other is_utf8_of reads =
     let none : Any (IsChangedByte f) (utf8 text) → ⊥ =
     λ found. none_changed f other reads.0 (rw (is_utf8_of.1, ← reads.1) at found) in
-    grind (arith, encoding_injective, encoding_same f text, shows_need f text is_utf8_of.0)
+    grind (arith, encoding_injective, encoding_same f text, needs_by_changed_byte f text is_utf8_of.0)

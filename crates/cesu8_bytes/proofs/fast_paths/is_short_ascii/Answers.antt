@@ -1,3 +1,4 @@
+-- The search found no byte of 80 (hexadecimal) or more, so all bytes are ASCII.
 use Rattle.std.proofs.lemmas.Bool.{iff_false, not-true}
 use Rattle.cesu8_bytes.proofs.lists.Ascii.{ascii_of_none}
 use Rattle.cesu8_bytes.proofs.fast_paths.is_short_ascii.Goals as goal

@@ -1,11 +1,14 @@
-use Rattle.std.proofs.Common.{◌↔◌, IsTrue, subst}
-use Rattle.std.specs.List.{Any}
-use Rattle.cesu8_text.specs.Class.{IsChangedByte}
-use Rattle.cesu8_text.proofs.encoding.NeedsEncoding.{needs_by_test}
+-- The encoding changes a character if and only if it changes a byte of the UTF-8. Both searches find
+-- such a byte (`needs_by_search`).
+use Rattle.cesu8_bytes.proofs.lists.Ascii.{needs_by_search}
 use Rattle.cesu8_bytes.proofs.fast_paths.needs_encoded.Goals as goal
 
-pub returns : goal.returns
-returns g c =
-    needs_by_test g.F.Flavor.flavor c.args.value.now c.utf8.value _
-    (subst (λ bytes. IsTrue c.contains_changed.result ↔ Any (IsChangedByte g.F.Flavor.flavor) bytes)
-    c.as_bytes.ensures.value c.contains_changed.ensures)
+pub returns-then-bytes-lt-SHORT : goal.returns-then-bytes-lt-SHORT
+returns-then-bytes-lt-SHORT g c =
+    needs_by_search g.F.Flavor.flavor g.F.Null.Class.class g.met.F.Flavor.are_null c.args.value.now _ _ c.utf8.value
+    c.as_bytes-bytes.ensures.value c.any_in_bytes.ensures
+
+pub returns-else-bytes-lt-SHORT : goal.returns-else-bytes-lt-SHORT
+returns-else-bytes-lt-SHORT g c =
+    needs_by_search g.F.Flavor.flavor g.F.Null.Class.class g.met.F.Flavor.are_null c.args.value.now _ _ c.utf8.value
+    c.as_bytes-bytes.ensures.value c.any_in_long.ensures

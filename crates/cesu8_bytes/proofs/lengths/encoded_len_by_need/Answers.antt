@@ -1,3 +1,4 @@
+-- If no byte changes, the encoding is the UTF-8, so their lengths are equal.
 use Rattle.std.proofs.Common.{ap, sym, length}
 use Rattle.std.proofs.lemmas.Bool.{iff_false}
 use Rattle.cesu8_text.proofs.encoding.NeedsEncoding.{encoding_is_bytes}

@@ -7,20 +7,20 @@ use Rattle.cesu8_bytes.proofs.order.difference_by.Goals as goal
 pub returns-then-same : goal.returns-then-same
 returns-then-same g c = record {
   within = search rules;
-  same = same_further c.args.bytes.now c.args.other.now c.loop-offset.offset c.loop-offset.offset c.same_in_front-same.result (omega arith)
-      c.loop-offset.invariant c.same_in_front-same.ensures.same;
-  end = λ _. c.same_in_front-same.ensures.end c.if-same.true;
+  same = same_further c.args.bytes.now c.args.other.now c.loop-offset.offset c.loop-offset.offset c.equal_lanes-same.result (omega arith)
+      c.loop-offset.invariant c.equal_lanes-same.ensures.same;
+  end = λ _. c.equal_lanes-same.ensures.end c.if-same.true;
 }
 
 pub loop-offset-preserved : goal.loop-offset-preserved
 loop-offset-preserved g c =
     same_further c.args.bytes.now c.args.other.now c.loop-offset.offset c.loop-offset.offset g.row.N (omega arith)
-    c.loop-offset.invariant (λ i before. c.same_in_front-same.ensures.same i (omega arith))
+    c.loop-offset.invariant (λ i before. c.equal_lanes-same.ensures.same i (omega arith))
 
 pub returns : goal.returns
 returns g c = record {
   within = omega arith;
-  same = same_further c.args.bytes.now c.args.other.now c.loop-offset.offset (c.args.len - g.row.N) c.same_in_front.result
-      (omega arith) c.loop-offset.invariant c.same_in_front.ensures.same;
-  end = λ less. c.same_in_front.ensures.end (omega arith);
+  same = same_further c.args.bytes.now c.args.other.now c.loop-offset.offset (c.args.len - g.row.N) c.equal_lanes.result
+      (omega arith) c.loop-offset.invariant c.equal_lanes.ensures.same;
+  end = λ less. c.equal_lanes.ensures.end (omega arith);
 }

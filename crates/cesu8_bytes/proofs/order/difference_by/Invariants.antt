@@ -1,3 +1,4 @@
+-- The bytes before the offset are equal.
 use Rattle.std.proofs.Common.{◌≡◌, ℕ, ◌-◌, ◌<◌, get_or}
 use Rattle.cesu8_bytes.proofs.order.difference_by.Given as goal
 

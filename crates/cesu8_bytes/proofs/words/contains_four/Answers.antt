@@ -1,3 +1,4 @@
+-- Flipping the bits of F0 makes the bytes F0 to F7 zero, and `zero_marks` finds a zero byte.
 use mathlib.Core.Logic.Iff.{trans}
 use Rattle.cesu8_bytes.proofs.lists.Words.{four_test, not_zero}
 use Rattle.cesu8_bytes.proofs.words.contains_four.Goals as goal

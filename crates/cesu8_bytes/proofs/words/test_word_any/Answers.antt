@@ -5,6 +5,11 @@ use Rattle.cesu8_bytes.proofs.lists.Words.{tested}
 use Rattle.cesu8_bytes.proofs.lists.EightElements.{of_eight, none_further, none_at_all}
 use Rattle.cesu8_bytes.proofs.words.test_word_any.Goals as goal
 
+pub returns-then-test : goal.returns-then-test
+returns-then-test g c class short tests =
+    let here = tested class c.word_at.result _ c.test.result (tests c.word_at.result c.test.result c.word_at.type_inv c.test.ensures) c.word_at.ensures in
+    ((λ _. of_eight class c.args.value.now 0 (here.0 c.if-test.true)), (λ _. refl))
+
 pub loop-offset-init : goal.loop-offset-init
 loop-offset-init g c class tests =
     let here = tested class c.word_at.result _ c.test.result (tests c.word_at.result c.test.result c.word_at.type_inv c.test.ensures) c.word_at.ensures in

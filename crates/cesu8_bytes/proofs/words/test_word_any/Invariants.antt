@@ -1,3 +1,4 @@
+-- No byte before the offset is in the class.
 use Rattle.std.proofs.Common.{ℕ, Bool, ◌-◌}
 use Rattle.cesu8_bytes.specs.Kernels.{FindsInWords}
 use Rattle.cesu8_bytes.proofs.lists.EightElements.{NoneUpTo}

@@ -1,3 +1,4 @@
+-- The eight bytes of the word are those that were loaded.
 use Rattle.std.proofs.Common.{◌≡◌, ◌+◌, ◌-◌, refl, sym, arith, take, drop}
 use lib.Lanes.{chunk}
 use Rattle.std.proofs.lemmas.List.{take-append-drop}

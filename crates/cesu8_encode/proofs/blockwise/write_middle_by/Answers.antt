@@ -2,7 +2,7 @@
 -- encoding does.
 use Rattle.std.proofs.Common.{◌≡◌, ◌+◌, ◌*◌, subst, ◌∙◌, arith}
 use Rattle.cesu8_encode.specs.EncodedOffsets.{IsWritten}
-use Rattle.cesu8_encode.proofs.encoder.EncodedWindows.{encoded_bytes_here, room_behind, written_behind}
+use Rattle.cesu8_encode.proofs.encoder.EncodedWindows.{encoded_bytes_here, room_after, written_after}
 use Rattle.cesu8_encode.proofs.blockwise.write_middle_by.Goals as goal
 
 pub write-end-requires-clause-room : goal.write-end-requires-clause-room
@@ -10,7 +10,7 @@ write-end-requires-clause-room g c =
     let f = g.F.Flavor.flavor in
     let text = c.args.text.now in
     let same = encoded_bytes_here f text (32 * c.loop-i.i) 32 (omega arith) in
-    omega (arith, room_behind f text (32 * c.loop-i.i) 32 c.loop-i.end c.loop-i.out _ same (omega arith) c.loop-i.invariant.written (omega arith))
+    omega (arith, room_after f text (32 * c.loop-i.i) 32 c.loop-i.end c.loop-i.out _ same (omega arith) c.loop-i.invariant.written (omega arith))
 
 pub loop-i-preserved : goal.loop-i-preserved
 loop-i-preserved g c =
@@ -19,10 +19,10 @@ loop-i-preserved g c =
     let inv = c.loop-i.invariant in
     let sum : 32 * c.loop-i.i + 32 ≡ 32 * (c.loop-i.i + 1) = omega arith in
     let same = encoded_bytes_here f text (32 * c.loop-i.i) 32 (omega arith) in
-    let room = room_behind f text (32 * c.loop-i.i) 32 c.loop-i.end c.loop-i.out _ same (omega arith) inv.written (omega arith) in
+    let room = room_after f text (32 * c.loop-i.i) 32 c.loop-i.end c.loop-i.out _ same (omega arith) inv.written (omega arith) in
     record {
       written = subst (λ n. IsWritten f text n c.write-end.new.out c.write-end.result) sum
-          (written_behind f text (32 * c.loop-i.i) 32 _ _ _ _ _ inv.written c.write-end.ensures.bytes same
+          (written_after f text (32 * c.loop-i.i) 32 _ _ _ _ _ inv.written c.write-end.ensures.bytes same
           (omega arith));
       len = c.write-end.ensures.len ∙ inv.len;
     }

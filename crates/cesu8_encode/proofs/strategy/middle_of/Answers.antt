@@ -1,6 +1,6 @@
+-- `NullChange` needs a string without a byte of F0 or more, and the search found none.
 use Rattle.std.proofs.lemmas.Bool.{iff_false}
 use Rattle.cesu8_encode.proofs.strategy.middle_of.Goals as goal
 
--- The whole text is tested.
 pub returns-then-not-any_in_bytes : goal.returns-then-not-any_in_bytes
 returns-then-not-any_in_bytes g c = iff_false c.any_in_bytes.ensures c.if-not-any_in_bytes.true

@@ -12,9 +12,9 @@ returns-then-not-needs_encoded g c =
     subst (λ answer. PutsAnswer answer c.copy_to_slice-then-not-needs_encoded.result c.args.buf.now c.copy_to_slice-then-not-needs_encoded.new.buf)
     (c.as_bytes-then-not-needs_encoded.ensures.value ∙ sym same) c.copy_to_slice-then-not-needs_encoded.ensures
 
-pub returns-then-not-few_need_encoded : goal.returns-then-not-few_need_encoded
-returns-then-not-few_need_encoded g c =
+pub returns-then-not-may_need_encoding : goal.returns-then-not-may_need_encoding
+returns-then-not-may_need_encoding g c =
     let same = encoding_is_bytes g.F.Flavor.flavor c.args.text.now c.utf8.text
-    (λ needs. both_ways _ c.if-not-few_need_encoded.true (c.few_need_encoded.ensures needs)) in
+    (λ needs. both_ways _ c.if-not-may_need_encoding.true (c.may_need_encoding.ensures needs)) in
     subst (λ answer. PutsAnswer answer c.copy_to_slice.result c.args.buf.now c.copy_to_slice.new.buf)
     (c.as_bytes.ensures.value ∙ sym same) c.copy_to_slice.ensures

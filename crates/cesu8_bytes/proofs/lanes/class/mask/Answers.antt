@@ -1,3 +1,4 @@
+-- Each lane selects FF if it is marked, and 00 otherwise.
 use Rattle.cesu8_bytes.proofs.lists.Classes.{chosen_by_marks}
 use Rattle.cesu8_bytes.proofs.lanes.class.mask.Goals as goal
 

@@ -1,3 +1,4 @@
+-- After `i` vectors, each lane has counted `i` bytes, and the lanes sum to the count so far.
 use Rattle.cesu8_text.specs.Class.{is_four}
 use Rattle.cesu8_bytes.proofs.vectors.Counts.{HaveCounted}
 use Rattle.cesu8_bytes.proofs.lanes.count.block_weight.Given as goal

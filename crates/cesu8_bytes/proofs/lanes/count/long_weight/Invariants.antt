@@ -1,3 +1,4 @@
+-- The weight so far and that of the bytes not yet read sum to the weight of all bytes.
 use Rattle.std.proofs.Common.{◌≡◌, ◌+◌, length, sum_by}
 use Rattle.cesu8_text.specs.Class.{weight_of}
 use Rattle.cesu8_bytes.proofs.lanes.count.long_weight.Given as goal

@@ -21,7 +21,7 @@ returns-then-bytes-lt-HALF c =
     let rest = 16 - length bytes in
     let few = bytes ++ replicate rest 0 in
     let long = length-append bytes (replicate rest 0) in
-    ap (λ first. pick_l 0 (first ++ replicate 16 0) (range_with_len 0 32)) c.padded_few.ensures
+    ap (λ first. pick_l 0 (first ++ replicate 16 0) (range_with_len 0 32)) c.padded_sixteen.ensures
     ∙ picked few (replicate 16 0) (omega (arith, long, length-replicate {A = ℕ} rest 0, c.if-bytes-lt-HALF.true)) refl
     ∙ append_assoc bytes (replicate rest 0) (replicate 16 0)
     ∙ ap (λ zs. bytes ++ zs) (replicate-append-replicate rest 16 0)

@@ -1,3 +1,5 @@
+-- If the test of four vectors returns false, none has a byte of the class. Each of the first 256
+-- bytes is in one of them.
 use Rattle.std.proofs.Common.{ℕ, List, ◌<◌, ◌≤◌, ◌⊎◌, ⊎_elim, inl, inr, arith, take, drop}
 use Rattle.std.proofs.lemmas.Bool.{both_ways, cases_lt}
 use Rattle.cesu8_bytes.specs.Kernels.{AnyIn}

@@ -1,3 +1,4 @@
+-- The lowest bit that is set in the mask is the first lane of the class.
 use Rattle.std.proofs.Common.{arith}
 use Rattle.std.proofs.lemmas.Simd.{first_set_mask_l}
 use Rattle.cesu8_bytes.proofs.lanes.runs.lanes_before.Goals as goal

@@ -1,3 +1,4 @@
+-- The chunk that was just tested has no byte of the class, so no chunk up to it has one.
 use Rattle.std.proofs.Common.{sym, subst}
 use Rattle.std.proofs.lemmas.Bool.{iff_false}
 use Rattle.cesu8_bytes.specs.Kernels.{AnyIn}

@@ -1,3 +1,4 @@
+-- No group that was tested has a byte of the class.
 use Rattle.std.specs.List.{Any}
 use Rattle.cesu8_bytes.specs.Kernels.{AnyIn}
 use Rattle.cesu8_bytes.proofs.lists.Walks.{NoneBefore}

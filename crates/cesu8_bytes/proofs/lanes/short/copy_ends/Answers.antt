@@ -1,3 +1,4 @@
+-- The vectors at both ends cover all bytes, so storing both copies all of them (`ends_stored`).
 use Rattle.std.proofs.Common.{◌≡◌, ◌-◌, ◌++◌, length, take, drop, sym, subst}
 use lib.Lanes.{put_chunk}
 use Rattle.cesu8_bytes.proofs.lists.Stored.{ends_stored}

@@ -1,3 +1,4 @@
+-- The bytes up to the index are appended, and the capacity is unchanged.
 use Rattle.std.proofs.Common.{◌≡◌, ◌+◌, ◌++◌, take, vec_len, vec_capacity}
 use Rattle.cesu8_bytes.proofs.writing.copies.append_each.Given as goal
 

@@ -1,3 +1,5 @@
+-- Each vector replaces what was appended from its offset on. The first begins at 0, each begins no
+-- later than the one before it ends, and the last ends with the bytes.
 use Rattle.std.proofs.Common.{◌≡◌, ◌++◌, ◌∙◌, ap, arith, length, append-nil, sym, rules}
 use Rattle.std.proofs.lemmas.List.{take_all}
 use Rattle.cesu8_bytes.proofs.writing.copies.append_four.Goals as goal

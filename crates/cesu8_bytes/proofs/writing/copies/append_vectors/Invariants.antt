@@ -1,3 +1,4 @@
+-- The first `at` bytes are appended, and the capacity is unchanged.
 use Rattle.std.proofs.Common.{◌-◌, ◌≡◌, ◌+◌, ◌≤◌, ◌++◌, length, take, vec_len, vec_capacity}
 use Rattle.cesu8_bytes.proofs.writing.copies.append_vectors.Given as goal
 

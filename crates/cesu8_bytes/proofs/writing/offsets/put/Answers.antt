@@ -1,3 +1,4 @@
+-- The copy replaces the bytes from `at` up to `end`, and no others.
 use Rattle.std.proofs.Common.{length, ap, arith, rules}
 use Rattle.std.proofs.lemmas.Grind.{common_steps}
 use Rattle.std.proofs.lemmas.Slice.{drop-put_mid}

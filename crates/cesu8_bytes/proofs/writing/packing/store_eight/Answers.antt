@@ -1,14 +1,14 @@
 -- Storing all lanes of a row writes those that it keeps, and then bytes that the next store
 -- overwrites.
 use Rattle.std.proofs.Common.{arith}
-use Rattle.cesu8_bytes.proofs.vectors.Packing.{few_of_eight, end_of_row, row_written}
+use Rattle.cesu8_bytes.proofs.vectors.Packing.{at_most_eight, end_of_row, row_written}
 use Rattle.cesu8_bytes.proofs.writing.packing.store_eight.Goals as goal
 
 pub returns-clause-kept : goal.returns-clause-kept
 returns-clause-kept c =
-    row_written 8 c.args.gone 0 8 _ (c.rows_of_eight.ensures c.args.gone c.requires.small) (few_of_eight c.args.gone c.requires.small) (omega arith)
+    row_written 8 c.args.gone 0 8 _ (c.rows_of_eight.ensures c.args.gone c.requires.small) (at_most_eight c.args.gone c.requires.small) (omega arith)
     c.args.lanes c.args.out.now _ c.args.at c.requires.room c.picked-packed.ensures
 
 pub returns-clause-few : goal.returns-clause-few
 returns-clause-few c =
-    omega (arith, end_of_row 8 c.args.gone 0 8 _ (c.rows_of_eight.ensures c.args.gone c.requires.small) (few_of_eight c.args.gone c.requires.small) (omega arith))
+    omega (arith, end_of_row 8 c.args.gone 0 8 _ (c.rows_of_eight.ensures c.args.gone c.requires.small) (at_most_eight c.args.gone c.requires.small) (omega arith))

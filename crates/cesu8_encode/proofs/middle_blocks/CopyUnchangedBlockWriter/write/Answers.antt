@@ -1,3 +1,4 @@
+-- If the block is unchanged, its encoding is the 32 bytes that are stored.
 use Rattle.std.proofs.Common.{◌+◌, ap, arith, length}
 use Rattle.std.proofs.lemmas.Simd.{length-chunk}
 use Rattle.cesu8_encode.proofs.middle_blocks.CopyUnchangedBlockWriter.write.Goals as goal

@@ -1,3 +1,4 @@
+-- A lane is marked by the comparison `BYTE <= byte`, which is the class.
 use Rattle.cesu8_bytes.proofs.lists.Classes.{least_marks}
 use Rattle.cesu8_bytes.proofs.lanes.class.AtLeastInVectors.marks.Goals as goal
 

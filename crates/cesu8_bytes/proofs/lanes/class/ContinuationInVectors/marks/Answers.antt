@@ -1,3 +1,4 @@
+-- A byte is 80 to BF (hexadecimal) if its upper two bits are those of 80 (`continues_by_bits`).
 use Rattle.std.proofs.Common.{leb, ltb, ◌&&◌}
 use Rattle.cesu8_bytes.proofs.lists.Classes.{continues_by_bits, masked_marks}
 use Rattle.cesu8_bytes.proofs.lanes.class.ContinuationInVectors.marks.Goals as goal

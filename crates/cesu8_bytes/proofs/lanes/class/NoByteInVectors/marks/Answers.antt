@@ -1,3 +1,4 @@
+-- No lane is marked, and no byte is in the class.
 use Rattle.cesu8_bytes.proofs.lists.Classes.{no_marks}
 use Rattle.cesu8_bytes.proofs.lanes.class.NoByteInVectors.marks.Goals as goal
 

@@ -1,3 +1,4 @@
+-- Three comparisons mark the bytes below 80 and those from C0 up to below F0 (hexadecimal).
 use Rattle.cesu8_bytes.proofs.lists.Classes.{range_marks}
 use Rattle.cesu8_bytes.proofs.lanes.class.OneUnitInVectors.marks.Goals as goal
 

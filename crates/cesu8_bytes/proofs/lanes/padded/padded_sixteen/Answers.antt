@@ -1,8 +1,10 @@
+-- For each length below 16, the row of the table selects the bytes in order, and then zeros. Each
+-- length is a case, which is true by computation.
 use Rattle.std.proofs.Common.{◌≡◌, ℕ, ◌-◌, ◌<◌, List, [], ◌∷◌, ◌++◌, length, get_or, replicate, refl, arith, w8}
 use Rattle.std.proofs.lemmas.Simd.{swz_l}
 use Rattle.cesu8_bytes.specs.Padded.{ends_of}
 use Rattle.cesu8_bytes.specs.declared.lanes.padded.TheConstants.{IN_ENDS}
-use Rattle.cesu8_bytes.proofs.lanes.padded.padded_few.Goals as goal
+use Rattle.cesu8_bytes.proofs.lanes.padded.padded_sixteen.Goals as goal
 
 -- The shuffle of the row for their number puts the bytes in order.
 in_order : (bytes : List ℕ) → length bytes < 16 → swz_l w8 16 (ends_of bytes) 0 (get_or IN_ENDS (length bytes) []) ≡ bytes ++ replicate (16 - length bytes) 0

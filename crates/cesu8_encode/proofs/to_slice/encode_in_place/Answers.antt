@@ -1,8 +1,8 @@
+-- The slice that is written to is as long as the encoding, so the encoding fills it.
 use Rattle.std.proofs.Common.{◌∙◌, sym, ap, ℕ, arith, rules, drop, length, ◌++◌, ◌≤◌}
 use Rattle.std.proofs.lemmas.List.{take_all, length-take}
-use Rattle.cesu8_encode.proofs.to_slice.put_in_place.Goals as goal
+use Rattle.cesu8_encode.proofs.to_slice.encode_in_place.Goals as goal
 
--- The slice that is written to is as long as the encoding, so the encoding fills it.
 pub returns : goal.returns
 returns g c =
     let whole : length c.write.new.out ≤ c.write.result =

@@ -5,7 +5,7 @@ use Rattle.std.proofs.lemmas.Grind.{common_steps}
 use Rattle.std.proofs.lemmas.List.Sums.{sum_by-take-drop, sum_by-take-le}
 use Rattle.cesu8_text.specs.Class.{weight_of}
 use Rattle.cesu8_bytes.proofs.vectors.Counts.{weight_bound, sum_by_next}
-use Rattle.cesu8_bytes.proofs.lanes.count.rest_weight.Goals as goal
+use Rattle.cesu8_bytes.proofs.lanes.count.remainder_weight.Goals as goal
 
 pub overflow_add-weight : goal.overflow_add-weight
 overflow_add-weight g c =

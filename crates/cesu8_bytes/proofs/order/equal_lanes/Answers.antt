@@ -2,8 +2,8 @@
 use Rattle.std.proofs.Common.{◌≡◌, ◌∙◌, not}
 use Rattle.std.specs.List.{prefix_len}
 use Rattle.cesu8_bytes.proofs.lists.Prefixes.{differ, same_before, differs_there, run_within, first_of_marks}
-use Rattle.cesu8_bytes.proofs.order.same_in_front.Given.{Over}
-use Rattle.cesu8_bytes.proofs.order.same_in_front.Goals as goal
+use Rattle.cesu8_bytes.proofs.order.equal_lanes.Given.{Over}
+use Rattle.cesu8_bytes.proofs.order.equal_lanes.Goals as goal
 
 -- The result is the index of the first lane that differs.
 first : (g : Over) (c : goal.After-first_bit g) →
