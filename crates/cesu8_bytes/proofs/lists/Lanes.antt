@@ -30,11 +30,6 @@ map_agree f g (x ∷ xs) h = λ i. h.0 i ∷ map_agree f g xs h.1 i
 
 -- ---- a choice by a comparison
 
--- The highest bit of such a lane selects as the test does.
-pub chosen : (t : Bool) (m n : ℕ) → cond (top 7 (ones t)) m n ≡ cond t m n
-chosen true m n = refl
-chosen false m n = refl
-
 -- Selecting one of two numbers by a test of each byte.
 pub chosen_of : (p : ℕ → Bool) (size m n : ℕ) (xs : List ℕ) → length xs ≡ size →
     sel_l (map p xs) (replicate size m) (replicate size n) ≡ map (λ x. cond (p x) m n) xs

@@ -79,7 +79,7 @@ unfolding is_short
 at_most kept bound e set l = leb-true _ _ (agree_below_at (is_short kept bound) (λ _. true) 0x100 set e l)
 
 module _ (n gone_set ill_formed_set bound : ℕ) (row : List ℕ) (row_is : row ≡ shuffle_keeping (kept_of gone_set ill_formed_set 0 n))
-    (few : length (kept_of gone_set ill_formed_set 0 n) ≤ bound) (fits : bound ≤ 15) where
+    (bounded : length (kept_of gone_set ill_formed_set 0 n) ≤ bound) (fits : bound ≤ 15) where
   abbrev kept : List ℕ
   kept = kept_of gone_set ill_formed_set 0 n
 
@@ -126,7 +126,7 @@ at_most_eight = at_most kept_of_eight 8 refl
 -- ---- bytes in parts
 
 -- What is written for bytes is what is written for the first n, then what is written for the rest.
-pub written_parts : (n : ℕ) (gone ill_formed : List Bool) (bytes : List ℕ) → length gone ≡ length ill_formed → length gone ≡ length bytes →
+written_parts : (n : ℕ) (gone ill_formed : List Bool) (bytes : List ℕ) → length gone ≡ length ill_formed → length gone ≡ length bytes →
     written gone ill_formed bytes ≡ written (take n gone) (take n ill_formed) (take n bytes) ++ written (drop n gone) (drop n ill_formed) (drop n bytes)
 written_parts zero gone ill_formed bytes e f = refl
 written_parts (suc n) [] ill_formed bytes e f = refl
@@ -158,10 +158,6 @@ module _ (gone ill_formed : List Bool) (bytes : List ℕ) where
     -- What is written for all bytes is what is written for four parts in turn.
     pub in_four : (n : ℕ) → 0 + n + n + n + n ≡ long → rest 0 ≡ part 0 n ++ (part (0 + n) n ++ (part (0 + n + n) n ++ part (0 + n + n + n) n))
     in_four n e = rw (next 0 n, next (0 + n) n, next (0 + n + n) n, last (0 + n + n + n) n e) refl
-
-    -- What is written for all bytes is what is written for two parts in turn.
-    pub in_two : (n : ℕ) → 0 + n + n ≡ long → rest 0 ≡ part 0 n ++ part (0 + n) n
-    in_two n e = rw (next 0 n, last (0 + n) n e) refl
 
 -- ---- 32 bytes
 
