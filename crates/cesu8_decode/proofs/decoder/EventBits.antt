@@ -1,15 +1,11 @@
 -- The bits of the events, which a loop visits one after another.
-use Rattle.std.proofs.Common.{◌≡◌, ◌≢◌, ℕ, zero, suc, ◌+◌, ◌-◌, ◌*◌, ◌/◌, ◌%◌, ◌^◌, ◌<◌, ◌≤◌, ◌⊎◌, ⊎_elim, inl, inr, true, false, true≢false, not, eqb, sym, ap, ◌∙◌, arith, min, max}
+use Rattle.std.proofs.Common.{◌≡◌, ◌≢◌, ℕ, zero, suc, ◌+◌, ◌-◌, ◌*◌, ◌/◌, ◌%◌, ◌^◌, ◌<◌, ◌≤◌, ◌⊎◌, ⊎_elim, inl, inr, sym, ap, ◌∙◌, arith, min, max}
 use Rattle.std.specs.Int.{bit_at, bit_not, w64}
 use Rattle.std.specs.Int.Bits.{bit_and, bit_or}
-use Rattle.std.proofs.lemmas.Bool.{cases_lt, cases_eq, eqb-true, eq-eqb, not-false}
+use Rattle.std.proofs.lemmas.Bool.{cases_lt, cases_eq}
 use Rattle.std.proofs.lemmas.Nat.{div-add-mod', mod-pow-add, pow_pos, pow_below}
-use Rattle.std.proofs.lemmas.Nat.Bits.{bit_at-lt, bit_at_lowest, bit_at-suc, bit_at_above, bit_at_or, bit_at_not, bit_at_and, bit_at_ones_above, bit_at_cat_low, bit_at_cat_high, same_from_bits}
+use Rattle.std.proofs.lemmas.Nat.Bits.{bit_at-lt, bit_at_lowest, bit_at-suc, bit_at_above, bit_at_or, bit_at_not, bit_at_and, bit_at_ones_above, bit_at_cat_low, bit_at_cat_high}
 use Rattle.cesu8_decode.proofs.decoder.MaskBits.{bit_kept}
-
--- A bit that is not 1 is 0.
-pub unset : (n i : ℕ) → (bit_at n i ≡ 1 → ⊥) → bit_at n i ≡ 0
-unset n i none = grind (arith, bit_at-lt)
 
 -- ---- the lowest bit
 
@@ -59,24 +55,6 @@ module _ (n k : ℕ) (lowest : IsLowest n k) where
       bit_at_and n (n - 1) i ∙ omega (arith, here, there))
       (cases_lt i k)
 
-  -- Clearing the lowest bit changes the common bits of n and a mask if and only if the mask has it.
-  pub lowest_in : (mask : ℕ) → let same = eqb (bit_and mask n) (bit_and mask (bit_and n (n - 1))) in (not same ≡ true → bit_at mask k ≡ 1) × (not same ≡ false → bit_at mask k ≡ 0)
-  lowest_in mask =
-      let left = bit_and n (n - 1) in (
-        λ differ. ⊎_elim (λ (set : bit_at mask k ≡ 1). set)
-            (λ (other : ¬ (bit_at mask k ≡ 1)).
-            let none = unset mask k other in
-            let same : bit_and mask n ≡ bit_and mask left = same_from_bits (bit_and mask n) (bit_and mask left) (λ i.
-            ⊎_elim (λ (here : i ≡ k). omega (arith, bit_at_and mask n i, bit_at_and mask left i, none, ap (bit_at mask) here))
-            (λ (there : ¬ (i ≡ k)). omega (arith, bit_at_and mask n i, bit_at_and mask left i, others_stay i there))
-            (cases_eq i k)) in
-            absurd (true≢false (sym differ ∙ ap not (eq-eqb _ _ same))))
-            (cases_eq (bit_at mask k) 1),
-        λ same.
-            let bits = ap (λ m. bit_at m k) (eqb-true (bit_and mask n) (bit_and mask left) (not-false _ same)) in
-            omega (arith, bits, bit_at_and mask n k, bit_at_and mask left k, lowest.set, cleared, bit_at-lt mask k),
-      )
-
 -- ---- events
 
 -- From `read` on, the events are the bits of `changing` and the first bit of each run of `ill`.
@@ -90,6 +68,10 @@ pub record AreEvents (changing ill read events : ℕ) : Type 0 where
 -- No event begins at the offset.
 abbrev pub NoEvent : (changing ill i : ℕ) → Type 0
 NoEvent changing ill i = (bit_at changing i ≡ 0) × (bit_at ill i ≡ 0)
+
+-- A bit that is not 1 is 0.
+pub unset : (n i : ℕ) → (bit_at n i ≡ 1 → ⊥) → bit_at n i ≡ 0
+unset n i none = grind (arith, bit_at-lt)
 
 module _ (changing ill read events : ℕ) (are : AreEvents changing ill read events) where
   -- No ill-formed byte precedes the next event.

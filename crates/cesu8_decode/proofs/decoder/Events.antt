@@ -19,7 +19,7 @@ use Rattle.cesu8_decode.specs.declared.lanes.windows.Window.{Window}
 use Rattle.cesu8_decode.proofs.by_offset.CharacterBoundaries.{width_bounds}
 use Rattle.cesu8_decode.proofs.by_offset.IllFormed.{not_reached}
 use Rattle.cesu8_decode.proofs.by_offset.WindowOffsets.{width_there, decoded_split}
-use Rattle.cesu8_decode.proofs.decoder.EventBits.{IsLowest, AreEvents, all_events, none_before, after_event, unset, lowest_in}
+use Rattle.cesu8_decode.proofs.decoder.EventBits.{IsLowest, AreEvents, all_events, none_before, after_event, unset}
 use Rattle.cesu8_decode.proofs.decoder.MaskBits.{run_ones, run_ends}
 use Rattle.cesu8_decode.proofs.decoder.WindowEnds.{none_changes, pair_set, null_set, ill_set, pair_unset, null_unset, ill_unset, ends_within, none_inside}
 use Rattle.cesu8_decode.proofs.decoder.EventsDecoded.{Stays, kept_decoded, boundary_behind, boundary_behind_ill_formed, ill_formed_decoded, length_replacements}
@@ -148,11 +148,6 @@ module _ {f : Flavor} {which : Strictness} {bytes : List ℕ} {at : ℕ} {window
     pub next_inside : next < window.len
     next_inside = omega (arith, next_begins, is.len)
 
-    -- The event is C0 80 if clearing its bit changes the mask of C0 80.
-    pub null_tested : let same = eqb (bit_and window.nulls events) (bit_and window.nulls (bit_and events (events - 1))) in
-        (not same ≡ true → bit_at window.nulls next ≡ 1) × (not same ≡ false → bit_at window.nulls next ≡ 0)
-    null_tested = lowest_in events next lowest window.nulls
-
     -- An event that is neither an ill-formed byte nor C0 80 is a surrogate pair.
     pub pair_marked : trailing_ones w64 (ill / 2 ^ next) ≡ 0 → bit_at window.nulls next ≡ 0 → ill < 2 ^ 64 → is_pair_at f bytes (at + next) ≡ true
     pair_marked none other ill_fits =
@@ -252,3 +247,13 @@ module _ {f : Flavor} {which : Strictness} {bytes : List ℕ} {at : ℕ} {window
               text = joined m changed;
               most = omega (arith, few, before.1, most_more which next m);
             }
+
+-- ---- at an event
+
+not_false : (t : Bool) → not t ≡ false → t ≡ true
+not_false true e = refl
+not_false false e = absurd (true≢false e)
+
+-- The test of a bit decides whether it is set.
+pub bit_tested : (n i : ℕ) → (not (eqb (bit_and (n / 2 ^ i) 1) 0) ≡ true → bit_at n i ≡ 1) × (not (eqb (bit_and (n / 2 ^ i) 1) 0) ≡ false → bit_at n i ≡ 0)
+bit_tested n i = grind (arith, shr_and_one, bit_at-lt, eqb-true, not_false)

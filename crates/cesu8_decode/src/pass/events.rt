@@ -105,18 +105,16 @@ fn write_in_turn<F: Flavor, S: Reading>(
     let mut end = end;
     while events != 0 {
         let next = events.trailing_zeros() as usize;
-        let later = events & (events - 1);
+        events &= events - 1;
         let copied = copy_between(bytes, at + read, next - read, out, end);
         let run = (ill_formed >> next).trailing_ones() as usize;
         (read, end) = if run != 0 {
             (next + run, put_replacements(run, out, copied))
         } else {
-            // This does not wait for `next`, as a shift would.
-            let is_null = window.nulls & events != window.nulls & later;
+            let is_null = window.nulls >> next & 1 != 0;
             let (len, end) = write_changed::<F>(bytes, at + next, is_null, out, copied);
             (next + len, end)
         };
-        events = later;
     }
     copy_between(bytes, at + read, window.len - read, out, end)
 }

@@ -2,7 +2,7 @@
 -- character that needs conversion. When no event is left, the rest of the window is copied.
 use Rattle.std.proofs.Common.{◌≤◌, ◌+◌, ◌∙◌, sym, arith, length}
 use Rattle.std.specs.Int.{trailing_zeros, w64}
-use Rattle.cesu8_decode.proofs.decoder.Events.{none_read, next_low, next_inside, event_room, pair_marked, run_room, run_read, changed_read, rest_copied, null_tested}
+use Rattle.cesu8_decode.proofs.decoder.Events.{none_read, next_low, next_inside, event_room, pair_marked, run_room, run_read, changed_read, rest_copied, bit_tested}
 use Rattle.cesu8_decode.proofs.decoder.WindowEnds.{null_set}
 use Rattle.cesu8_decode.proofs.by_offset.CharacterBoundaries.{width_bounds}
 use Rattle.cesu8_decode.proofs.pass.events.write_in_turn.Goals as goal
@@ -37,14 +37,13 @@ write_changed-len-requires-clause-bytes g c =
 
 pub write_changed-len-requires-clause-null : goal.write_changed-len-requires-clause-null
 write_changed-len-requires-clause-null g c =
-    let loop = c.loop-events in
-    λ set. (null_set c.requires.window.is_window _ ((null_tested loop.invariant (omega (arith, c.loop-events-test.true)) loop.auto.events-fits.fits).0 set)).1
+    λ set. (null_set c.requires.window.is_window _ ((bit_tested c.args.window.nulls _).0 set)).1
 
 pub write_changed-len-requires-clause-pair : goal.write_changed-len-requires-clause-pair
 write_changed-len-requires-clause-pair g c =
     let loop = c.loop-events in
     λ other. pair_marked loop.invariant (omega (arith, c.loop-events-test.true)) loop.auto.events-fits.fits
-    (sym c.trailing_ones-run.ensures ∙ omega (arith, c.if-run-ne0.false)) ((null_tested loop.invariant (omega (arith, c.loop-events-test.true)) loop.auto.events-fits.fits).1 other) c.type_inv.ill_formed.fits
+    (sym c.trailing_ones-run.ensures ∙ omega (arith, c.if-run-ne0.false)) ((bit_tested c.args.window.nulls _).1 other) c.type_inv.ill_formed.fits
 
 pub write_changed-len-requires-clause-room : goal.write_changed-len-requires-clause-room
 write_changed-len-requires-clause-room g c =
