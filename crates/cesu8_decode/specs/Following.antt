@@ -29,16 +29,16 @@ first_low Unchanged = 0xA0
 
 -- What three tables have for two bytes: the bits that their entries have in common, by the upper
 -- half of the first byte, by its lower half, and by the upper half of the second.
-abbrev pub told : (by_high by_low by_next : List ℕ) → ℕ → ℕ → ℕ
-told by_high by_low by_next a b =
+abbrev pub table_bits : (by_high by_low by_next : List ℕ) → ℕ → ℕ → ℕ
+table_bits by_high by_low by_next a b =
     bit_and (bit_and (slice_index by_high (a / 0x10 % 0x10)) (slice_index by_low (a % 0x10))) (slice_index by_next (b / 0x10 % 0x10))
 
 -- The class of byte b after byte a (numbers are hexadecimal): 80 after a continuation byte, so b is
 -- a third byte; 20 if b is the second byte of a low surrogate, or of any surrogate if the set has
 -- no pairs; 0 if b begins a character or is the second byte of another character. In every other
 -- case no character of the set has the two bytes, and the class has an error bit.
-unfoldable pub shown : CharacterSet → Flavor → ℕ → ℕ → ℕ
-shown s f a b =
+unfoldable pub pair_class : CharacterSet → Flavor → ℕ → ℕ → ℕ
+pair_class s f a b =
     if is_null f b then 0xFF
     else if nat_le 0xF0 a then 0x40
     else if not (continues b) then (if nat_le 0xC0 a then 0x01 else 0)
@@ -61,12 +61,12 @@ later d = if nat_le 0xE0 d then 0x80 else 0
 
 -- The class that a byte is required to have by the bytes four, three and two places earlier: also
 -- the second byte of a low surrogate, if a high surrogate precedes it.
-abbrev pub wanted : CharacterSet → (a b d : ℕ) → ℕ
-wanted s a b d = later d + (if is_high_surrogate s a b then 0x20 else 0)
+abbrev pub required_class : CharacterSet → (a b d : ℕ) → ℕ
+required_class s a b d = later d + (if is_high_surrogate s a b then 0x20 else 0)
 
 -- Byte g can follow the bytes a, b, d and e: its class is the required one.
 abbrev pub follows : CharacterSet → Flavor → (a b d e g : ℕ) → Bool
-follows s f a b d e g = shown s f e g == wanted s a b d
+follows s f a b d e g = pair_class s f e g == required_class s a b d
 
 -- Byte i + 4 of a window can follow the four bytes before it.
 abbrev pub follows_at : CharacterSet → Flavor → List ℕ → ℕ → Bool

@@ -1,7 +1,8 @@
+-- The definitions that the decoder's contracts cite.
 pub mod DecodedOffsets
 pub mod Masks
-pub mod Refusals
+pub mod Errors
 pub mod Following
 pub mod Decoding
 pub mod PutReadings
-pub mod Front
+pub mod Prefixes

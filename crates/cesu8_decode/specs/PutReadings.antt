@@ -5,8 +5,8 @@ use Rattle.cesu8_text.specs.Reading.{IsStrictReading, reading}
 use Rattle.cesu8_text.specs.Slices.{ReadsAtLength, ReadingAtFront}
 use Rattle.cesu8_bytes.specs.declared.strictness.Strictness.{Strictness}
 use Rattle.cesu8_bytes.specs.declared.strictness.Strictness.TheVariants.{Strict, Lossy}
-use Rattle.cesu8_decode.specs.declared.refusal.Unwritten.{Unwritten}
-use Rattle.cesu8_decode.specs.declared.refusal.Unwritten.TheVariants.{NoText, TooLong, NoRoom}
+use Rattle.cesu8_decode.specs.declared.error.WriteError.{WriteError}
+use Rattle.cesu8_decode.specs.declared.error.WriteError.TheVariants.{NoText, TooLong, NoRoom}
 
 -- The texts that the input can have, in strict or in lossy decoding, in some mode.
 abbrev pub ReadsAs : Strictness → (reads reads_lossily : List ℕ → Type 0) → List ℕ → Type 0
@@ -18,23 +18,23 @@ abbrev pub IsReadingOf : Flavor → Strictness → List ℕ → List ℕ → Typ
 IsReadingOf f which bytes = ReadsAs which (IsStrictReading f bytes) (λ text. text ≡ reading f bytes)
 
 -- The call returned the error that the bytes have no text.
-abbrev pub LacksText : Result ℕ Unwritten → Type 0
+abbrev pub LacksText : Result ℕ WriteError → Type 0
 LacksText (Err NoText) = ⊤
 LacksText other = ⊥
 
 -- The call returned the error that the length of the text does not fit `usize`.
-abbrev pub LacksLength : Result ℕ Unwritten → Type 0
+abbrev pub LacksLength : Result ℕ WriteError → Type 0
 LacksLength (Err TooLong) = ⊤
 LacksLength other = ⊥
 
 -- If the call returned the error that the slice is too short, the fact holds for the length in that
 -- error.
-abbrev pub IfLacksRoom : Result ℕ Unwritten → (ℕ → Type 0) → Type 0
+abbrev pub IfLacksRoom : Result ℕ WriteError → (ℕ → Type 0) → Type 0
 IfLacksRoom (Err (NoRoom no_room)) P = P no_room.needed
 IfLacksRoom other P = ⊤
 
 -- The text of the bytes is written to the slice, or the error says why not.
-pub record PutsText (which : Strictness) (IsReading : List ℕ → Type 0) (result : Result ℕ Unwritten) (old new : List ℕ) : Type 0 where
+pub record PutsText (which : Strictness) (IsReading : List ℕ → Type 0) (result : Result ℕ WriteError) (old new : List ℕ) : Type 0 where
   pub written : IfOk result (λ len. ReadingAtFront IsReading len old new)
   -- The call succeeds exactly if there is a text and it fits.
   pub fits : IsOk result ↔ ReadsAtLength IsReading (λ len. len ≤ length old)
@@ -50,5 +50,5 @@ pub record PutsText (which : Strictness) (IsReading : List ℕ → Type 0) (resu
   pub lossy : LacksLength result → which ≡ Lossy
 
 -- The strictly or lossily decoded text is written to the slice, or the error says why not.
-abbrev pub PutsReading : Flavor → Strictness → List ℕ → Result ℕ Unwritten → List ℕ → List ℕ → Type 0
+abbrev pub PutsReading : Flavor → Strictness → List ℕ → Result ℕ WriteError → List ℕ → List ℕ → Type 0
 PutsReading f which bytes = PutsText which (IsReadingOf f which bytes)

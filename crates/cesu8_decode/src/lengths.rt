@@ -8,13 +8,15 @@ ghost use Rattle.cesu8_text.specs.Slices.{ReadsAtLength};
 
 mod counts;
 
-use crate::front::front;
 use crate::lanes::masks::STEP;
 use crate::needs_conversion::begins_changed;
+use crate::prefix::unchanged_prefix;
+use crate::strategy::are_few;
 use crate::valid::is_ill_formed;
 use cesu8_bytes::flavor::Flavor;
 use cesu8_bytes::lanes::class::LANES;
-use counts::{saved_by_few, saved_by_last, saved_by_step};
+use counts::{saved_by_few, saved_by_lanes, saved_by_last};
+use std::simd::prelude::*;
 
 /// Returns the length of the strictly decoded text in bytes, or `None` if a byte is ill-formed. The
 /// unchanged prefix is as long in UTF-8, so only the bytes after it are counted.
@@ -23,16 +25,16 @@ pub fn decoded_len<F: Flavor>(bytes: &[u8]) -> Option<usize>
         ReadsAtLength (IsStrictReading F.flavor bytes.now) (λ text_len. len ≡ text_len)) }
     ensures none { IfNone result (HasNoStrictReading F.flavor bytes.now) }
 {
-    let front = front::<F>(bytes).len;
-    let rest = &bytes[front..];
+    let prefix = unchanged_prefix::<F>(bytes).len;
+    let rest = &bytes[prefix..];
     if rest.is_empty() {
-        return Some(front);
+        return Some(prefix);
     }
     if !begins_changed::<F>(rest) || is_ill_formed::<F>(rest) {
         return None;
     }
     let rest_len = lossy_len::<F>(rest)?;
-    Some(front + rest_len)
+    Some(prefix + rest_len)
 }
 
 /// Returns the length of the lossily decoded text in bytes, or `None` if it does not fit `usize`.
@@ -40,13 +42,13 @@ pub fn lossy_len<F: Flavor>(bytes: &[u8]) -> Option<usize>
     ensures some { IfSome result (λ len. len ≡ lossy_length F.flavor bytes.now) }
     ensures none { IfNone result (usize.MAX < lossy_length F.flavor bytes.now) }
 {
-    if bytes.len() <= LANES {
+    if are_few(bytes) {
         return Some(3 * bytes.len() - saved_by_few::<F>(bytes));
     }
     let mut len = 3 * bytes.len() as u128;
     let mut at = 0;
     while bytes.len() - at > LANES {
-        len -= saved_by_step::<F>(bytes, at) as u128;
+        len -= saved_by_lanes::<F, LANES>(u8x64::from_slice(&bytes[at..]), 0, STEP) as u128;
         at += STEP;
     }
     len -= saved_by_last::<F>(bytes, bytes.len() - at) as u128;

@@ -10,7 +10,7 @@
 //!
 //! - `modes`: the modes, lenient and encoding alone
 //! - `lanes`: vector code for 32 or 64 bytes, with no branch on a single byte
-//! - `front`: the length of the prefix of whole characters that are unchanged in UTF-8; decoding
+//! - `prefix`: the length of the prefix of whole characters that are unchanged in UTF-8; decoding
 //!   begins with this test
 //! - `valid`: the length of the prefix of whole encoded characters
 //! - `utf8`: whether bytes are UTF-8, which lenient calls test after the unchanged prefix
@@ -21,31 +21,31 @@
 //! - `destinations`: decoding to a `String` and to a caller's slice
 //! - `to_slice`: decoding to a caller's slice that copies unchanged input
 //!
-//! `refusal` has the errors.
+//! `error` has the errors.
 #![tactic(auto)]
 
 ghost use Rattle.std.specs.Prelude.{◌≡◌, ◌<◌, length, IfOk};
 ghost use Rattle.std.specs.String.{string_bytes, string_capacity};
 ghost use Rattle.std.specs.Str.{chars};
 ghost use Rattle.cesu8_text.specs.Reading.{IsStrictReading, HasNoStrictReading, reading, lossy_length};
-ghost use Rattle.cesu8_decode.specs.Front.{IsPartialFront};
-ghost use Rattle.cesu8_decode.specs.Refusals.{OnNoText};
+ghost use Rattle.cesu8_decode.specs.Prefixes.{IsProperPrefix};
+ghost use Rattle.cesu8_decode.specs.Errors.{OnNoText};
 
 mod destinations;
-pub mod front;
+pub mod error;
 mod lanes;
 mod lengths;
 pub mod modes;
 mod needs_conversion;
 mod pass;
-pub mod refusal;
+pub mod prefix;
 mod strategy;
 pub mod to_slice;
 mod utf8;
 pub mod valid;
 
-use crate::front::FoundFront;
-use crate::refusal::Refusal;
+use crate::error::BuildError;
+use crate::prefix::UnchangedPrefix;
 use cesu8_bytes::flavor::Flavor;
 use cesu8_bytes::strictness::NoText;
 use cesu8_bytes::utf8::known_string;
@@ -54,43 +54,43 @@ pub use lengths::{decoded_len, lossy_len};
 use std::alloc::{AllocError, Global};
 
 /// Returns the strictly decoded text, or an error if a byte is ill-formed or the allocation fails.
-/// Allocates once, as many bytes as the input has. `front` is the unchanged prefix, which is not
+/// Allocates once, as many bytes as the input has. `prefix` is the unchanged prefix, which is not
 /// the whole input. It is not inlined, so that a call that borrows saves no register for it.
 #[inline(never)]
 pub fn decode_strict<F: Flavor>(
     alloc: Global,
     bytes: &[u8],
-    front: FoundFront,
-) -> Result<String, Refusal>
-    requires { IsPartialFront F.flavor bytes.now front }
+    prefix: UnchangedPrefix,
+) -> Result<String, BuildError>
+    requires { IsProperPrefix F.flavor bytes.now prefix }
     ensures text { IfOk result (λ text.
         IsStrictReading F.flavor bytes.now (chars (string_bytes text))) }
     ensures capacity { IfOk result (λ text. string_capacity text ≡ length bytes.now) }
     ensures invalid { OnNoText result (HasNoStrictReading F.flavor bytes.now) }
 {
-    let empty = Vec::with_capacity(alloc, bytes.len()).map_err(Refusal::Memory)?;
-    match write_strictly::<F>(bytes, front, empty) {
+    let empty = Vec::with_capacity(alloc, bytes.len()).map_err(BuildError::Memory)?;
+    match write_strictly::<F>(bytes, prefix, empty) {
         Ok(text) => Ok(known_string(text)),
-        Err(NoText) => Err(Refusal::NoText),
+        Err(NoText) => Err(BuildError::NoText),
     }
 }
 
 /// Returns the lossily decoded text. Allocates once, exactly its length; a length over `usize` is
-/// reported as a failed allocation. `front` is the unchanged prefix, which is not the whole input.
+/// reported as a failed allocation. `prefix` is the unchanged prefix, which is not the whole input.
 /// At most the first 4,096 bytes (`LARGEST_ARRAY`) are decoded to the stack before the allocation,
 /// so that they need no separate pass for their length. It is not inlined, as `decode_strict`.
 #[inline(never)]
 pub fn decode_lossy<F: Flavor>(
     alloc: Global,
     bytes: &[u8],
-    front: FoundFront,
+    prefix: UnchangedPrefix,
 ) -> Result<String, AllocError>
-    requires { IsPartialFront F.flavor bytes.now front }
+    requires { IsProperPrefix F.flavor bytes.now prefix }
     ensures text { IfOk result (λ text.
         chars (string_bytes text) ≡ reading F.flavor bytes.now) }
     ensures capacity { IfOk result (λ text.
         string_capacity text ≡ lossy_length F.flavor bytes.now) }
 {
-    let text = build_lossily::<F>(alloc, bytes, front)?;
+    let text = build_lossily::<F>(alloc, bytes, prefix)?;
     Ok(known_string(text))
 }

@@ -1,7 +1,7 @@
 //! The modes of decoding as types: `Lenient` returns input unchanged if it is UTF-8, and
 //! `EncodingAlone` only if it is UTF-8 in which nothing needs conversion.
 //!
-//! `front_unless_kept` decides whether a call returns its input unchanged. If not, it returns the
+//! `prefix_unless_kept` decides whether a call returns its input unchanged. If not, it returns the
 //! unchanged prefix, with which decoding begins.
 
 ghost use Rattle.std.specs.Prelude.{◌≡◌, ◌↔◌, ◌⊎◌, ℕ, ◌≤◌, List, IfNone, IfSome, IsTrue, IsUtf8, length, take};
@@ -10,9 +10,9 @@ ghost use Rattle.cesu8_text.specs.Encoding.{Flavor as AnyFlavor};
 ghost use Rattle.cesu8_text.specs.Reading.{IsStrictReading, IsLenientReading, reading, IsLenientLossyReading};
 ghost use Rattle.cesu8_text.specs.Kept.{KnowsTexts};
 ghost use Rattle.cesu8_text.proofs.reading.KeptTexts.{encoding_texts, lenient_texts};
-ghost use Rattle.cesu8_decode.specs.Front.{IsPartialFront, IsFrontUnlessKept};
+ghost use Rattle.cesu8_decode.specs.Prefixes.{IsProperPrefix, IsPrefixUnlessKept};
 
-use crate::front::{FoundFront, front};
+use crate::prefix::{UnchangedPrefix, unchanged_prefix};
 use crate::strategy::are_few;
 use crate::utf8::is_utf8_by_parts;
 use cesu8_bytes::fast_paths::{is_short_ascii, is_short_unchanged_ascii};
@@ -34,8 +34,8 @@ pub trait Accepts {
         ensures { IsTrue result → keeps F.flavor bytes.now };
 
     /// Returns the unchanged prefix, or the whole input if it is returned unchanged.
-    fn front_of_other<F: Flavor>(bytes: &[u8]) -> FoundFront
-        ensures { IsFrontUnlessKept F.flavor (keeps F.flavor bytes.now) bytes.now result };
+    fn prefix_of_other<F: Flavor>(bytes: &[u8]) -> UnchangedPrefix
+        ensures { IsPrefixUnlessKept F.flavor (keeps F.flavor bytes.now) bytes.now result };
 
     ghost known: { (f : AnyFlavor) (bytes : List ℕ)
         → KnowsTexts f bytes (keeps f bytes) (reads f bytes) (reads_lossily f bytes) };
@@ -45,29 +45,29 @@ pub trait Accepts {
 /// which is not the whole input. For at most 64 bytes it also says which characters need
 /// conversion.
 #[inline(always)]
-pub fn front_unless_kept<F: Flavor, A: Accepts>(bytes: &[u8]) -> Option<FoundFront>
+pub fn prefix_unless_kept<F: Flavor, A: Accepts>(bytes: &[u8]) -> Option<UnchangedPrefix>
     ensures kept { IfNone result (A.keeps F.flavor bytes.now) }
     ensures other { IfSome result (λ _. ¬ (A.keeps F.flavor bytes.now)) }
-    ensures front { IfSome result (IsPartialFront F.flavor bytes.now) }
+    ensures prefix { IfSome result (IsProperPrefix F.flavor bytes.now) }
 {
     if A::is_short_kept::<F>(bytes) {
         return None;
     }
-    let front = front_by_call::<F, A>(bytes);
-    if front.len == bytes.len() {
+    let prefix = prefix_by_call::<F, A>(bytes);
+    if prefix.len == bytes.len() {
         return None;
     }
-    Some(front)
+    Some(prefix)
 }
 
-/// Calls `front_of_other`. It is not inlined, so that the fast path of its caller stays small, and
+/// Calls `prefix_of_other`. It is not inlined, so that the fast path of its caller stays small, and
 /// returns two words, which fit in registers. Decoding to a slice does not need it, since a call
 /// follows its fast path anyway.
 #[inline(never)]
-fn front_by_call<F: Flavor, A: Accepts>(bytes: &[u8]) -> FoundFront
-    ensures { IsFrontUnlessKept F.flavor (A.keeps F.flavor bytes.now) bytes.now result }
+fn prefix_by_call<F: Flavor, A: Accepts>(bytes: &[u8]) -> UnchangedPrefix
+    ensures { IsPrefixUnlessKept F.flavor (A.keeps F.flavor bytes.now) bytes.now result }
 {
-    A::front_of_other::<F>(bytes)
+    A::prefix_of_other::<F>(bytes)
 }
 
 /// Input is UTF-8 as a whole, or else the encoding.
@@ -86,44 +86,37 @@ impl Accepts for Lenient {
     }
 
     #[inline(always)]
-    fn front_of_other<F: Flavor>(bytes: &[u8]) -> FoundFront {
-        let front = front::<F>(bytes);
+    fn prefix_of_other<F: Flavor>(bytes: &[u8]) -> UnchangedPrefix {
+        let prefix = unchanged_prefix::<F>(bytes);
         // If the input is UTF-8, the byte after the unchanged prefix begins a character of four
         // bytes or is 00.
-        if front.len == bytes.len() || !matches!(bytes[front.len], 0 | 0xF0..=0xF7) {
-            return front;
+        if prefix.len == bytes.len() || !matches!(bytes[prefix.len], 0 | 0xF0..=0xF7) {
+            return prefix;
         }
-        all_if_utf8(bytes, front)
+        all_if_utf8(bytes, prefix)
     }
 
     ghost known = { lenient_texts };
 }
 
-/// Returns the whole input if it is UTF-8, and otherwise `front`, whose bytes are known to be
+/// Returns the whole input if it is UTF-8, and otherwise `prefix`, whose bytes are known to be
 /// UTF-8. It is not inlined, so that unchanged input has few registers to save.
 #[inline(never)]
-fn all_if_utf8(bytes: &[u8], front: FoundFront) -> FoundFront
-    requires { (front.len ≤ length bytes.now) × IsUtf8 (take front.len bytes.now) }
+fn all_if_utf8(bytes: &[u8], prefix: UnchangedPrefix) -> UnchangedPrefix
+    requires { (prefix.len ≤ length bytes.now) × IsUtf8 (take prefix.len bytes.now) }
     ensures { ((result.len ≡ length bytes.now) × IsUtf8 bytes.now)
-        ⊎ ((result ≡ front) × ¬ (IsUtf8 bytes.now)) }
+        ⊎ ((result ≡ prefix) × ¬ (IsUtf8 bytes.now)) }
 {
-    if !is_utf8_by_parts(&bytes[first_tested(bytes, front.len)..]) {
-        return front;
+    // At most 64 bytes are tested from the start, which takes no longer, so that no branch depends
+    // on the prefix.
+    let start = if are_few(bytes) { 0 } else { prefix.len };
+    if !is_utf8_by_parts(&bytes[start..]) {
+        return prefix;
     }
-    FoundFront {
+    UnchangedPrefix {
         len: bytes.len(),
         changed: 0,
     }
-}
-
-/// Returns the offset at which the test for UTF-8 begins: the end of the unchanged prefix, which is
-/// UTF-8. At most 64 bytes are tested from the start, since that takes no longer and no branch
-/// depends on the prefix.
-#[inline(always)]
-fn first_tested(bytes: &[u8], front: usize) -> usize
-    ensures { (result ≡ 0) ⊎ (result ≡ front) }
-{
-    if are_few(bytes) { 0 } else { front }
 }
 
 /// Returns whether the bytes are UTF-8, by the test of lenient calls. It is not inlined, so that
@@ -133,7 +126,7 @@ pub fn is_utf8(bytes: &[u8]) -> bool
     ensures { IsTrue result ↔ IsUtf8 bytes.now }
 {
     // In CESU-8 all ASCII is unchanged, so no byte 00 ends the prefix.
-    Lenient::front_of_other::<Cesu8Flavor>(bytes).len == bytes.len()
+    Lenient::prefix_of_other::<Cesu8Flavor>(bytes).len == bytes.len()
 }
 
 /// Input is the encoding. It is also UTF-8 if nothing in it needs conversion.
@@ -152,8 +145,8 @@ impl Accepts for EncodingAlone {
     }
 
     #[inline(always)]
-    fn front_of_other<F: Flavor>(bytes: &[u8]) -> FoundFront {
-        front::<F>(bytes)
+    fn prefix_of_other<F: Flavor>(bytes: &[u8]) -> UnchangedPrefix {
+        unchanged_prefix::<F>(bytes)
     }
 
     ghost known = { encoding_texts };

@@ -24,7 +24,7 @@ pub fn may_lead_changed(byte: u8) -> bool
 pub fn begins_changed<F: Flavor>(bytes: &[u8]) -> bool
     ensures { IsTrue result ↔ BeginsChanged F.flavor bytes.now }
 {
-    changes::<F>(prefix_of(bytes, &mut [0; PAIR_READ]))
+    changes::<F>(first_eight(bytes, &mut [0; PAIR_READ]))
 }
 
 /// Like `begins_changed`, for at least eight bytes, so that no copy is needed.
@@ -38,7 +38,7 @@ pub fn changes<F: Flavor>(bytes: &[u8]) -> bool
 
 /// Returns the first eight bytes. If there are fewer, returns a copy that is padded with zeros.
 #[inline(always)]
-pub fn prefix_of<'a>(bytes: &'a [u8], padded: &'a mut [u8; PAIR_READ]) -> &'a [u8]
+pub fn first_eight<'a>(bytes: &'a [u8], padded: &'a mut [u8; PAIR_READ]) -> &'a [u8]
     requires { padded.old ≡ replicate PAIR_READ 0 }
     ensures prefix { IsPrefixOf bytes.now result.now }
     ensures long { PAIR_READ ≤ length result.now }

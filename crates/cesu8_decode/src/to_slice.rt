@@ -4,8 +4,8 @@
 ghost use Rattle.cesu8_decode.specs.PutReadings.{PutsText, ReadsAs};
 
 use crate::destinations::slices::{put_lossily, put_strictly};
+use crate::error::WriteError;
 use crate::modes::Accepts;
-use crate::refusal::Unwritten;
 use cesu8_bytes::flavor::Flavor;
 use cesu8_bytes::strictness::{Reading, Strictness};
 use cesu8_bytes::writing::copies::copy_to_slice;
@@ -17,12 +17,12 @@ use cesu8_bytes::writing::copies::copy_to_slice;
 pub fn decode_to_slice<F: Flavor, A: Accepts, S: Reading>(
     bytes: &[u8],
     buf: &mut [u8],
-) -> Result<usize, Unwritten>
+) -> Result<usize, WriteError>
     ensures { PutsText S.which (ReadsAs S.which (A.reads F.flavor bytes.now)
         (A.reads_lossily F.flavor bytes.now)) result buf.old buf.new }
 {
     if A::is_short_kept::<F>(bytes) {
-        return copy_to_slice(bytes, buf).map_err(Unwritten::NoRoom);
+        return copy_to_slice(bytes, buf).map_err(WriteError::NoRoom);
     }
     decode_other_to_slice::<F, A, S>(bytes, buf)
 }
@@ -33,17 +33,17 @@ pub fn decode_to_slice<F: Flavor, A: Accepts, S: Reading>(
 fn decode_other_to_slice<F: Flavor, A: Accepts, S: Reading>(
     bytes: &[u8],
     buf: &mut [u8],
-) -> Result<usize, Unwritten>
+) -> Result<usize, WriteError>
     ensures { PutsText S.which (ReadsAs S.which (A.reads F.flavor bytes.now)
         (A.reads_lossily F.flavor bytes.now)) result buf.old buf.new }
 {
-    let front = A::front_of_other::<F>(bytes);
-    if front.len == bytes.len() {
-        return copy_to_slice(bytes, buf).map_err(Unwritten::NoRoom);
+    let prefix = A::prefix_of_other::<F>(bytes);
+    if prefix.len == bytes.len() {
+        return copy_to_slice(bytes, buf).map_err(WriteError::NoRoom);
     }
     // `Ok` and `?` copy a result field by field: a copy of the whole would wait for the stores.
     match S::strictness() {
-        Strictness::Strict => Ok(put_strictly::<F>(bytes, front, buf)?),
-        Strictness::Lossy => Ok(put_lossily::<F>(bytes, front, buf)?),
+        Strictness::Strict => Ok(put_strictly::<F>(bytes, prefix, buf)?),
+        Strictness::Lossy => Ok(put_lossily::<F>(bytes, prefix, buf)?),
     }
 }

@@ -26,10 +26,10 @@ pub fn is_utf8_by_parts(bytes: &[u8]) -> bool
 {
     // Here the compiler knows that half of the vector is zero.
     if is_one_block(bytes) {
-        return is_rest_utf8(Checker::new(), bytes);
+        return is_end_utf8(Checker::new(), bytes);
     }
     let first = part_end(bytes, 0, LANES);
-    if !is_rest_utf8(Checker::new(), &bytes[..first]) {
+    if !is_end_utf8(Checker::new(), &bytes[..first]) {
         return false;
     }
     // Often one character of four bytes is followed by ASCII alone, which needs no `Checker`.
@@ -107,13 +107,13 @@ fn is_part_utf8(bytes: &[u8]) -> bool
         checker = checker.step(u8x64::from_slice(&bytes[at..]));
         at += LANES;
     }
-    is_rest_utf8(checker, &bytes[at..])
+    is_end_utf8(checker, &bytes[at..])
 }
 
 /// Returns whether the bytes that a checker has read and the rest, at most 64 bytes, are UTF-8
 /// together.
 #[inline(always)]
-fn is_rest_utf8(checker: Checker, rest: &[u8]) -> bool
+fn is_end_utf8(checker: Checker, rest: &[u8]) -> bool
     requires { length rest.now ≤ LANES }
     ensures { (read : List ℕ) → HasRead checker read
         → (IsTrue result ↔ IsUtf8 (read ++ rest.now)) }

@@ -4,17 +4,16 @@
 //! input vectors find the first byte that cannot follow the bytes before it, and the prefix ends at
 //! the last character boundary up to there.
 
-ghost use Rattle.std.specs.Prelude.{◌≡◌, ◌≤◌, IsTrue, false, length};
+ghost use Rattle.std.specs.Prelude.{◌≡◌, IsTrue, false};
 ghost use Rattle.cesu8_text.specs.Fronts.{IsValidUpTo};
 ghost use Rattle.cesu8_text.specs.Reading.{IsStrictReading, HasNoStrictReading, reading};
 
-use crate::front::front_of_many;
 use crate::lanes::character_set::Encoded;
 use crate::lanes::windows::window_of_few;
+use crate::prefix::longest_prefix;
 use crate::strategy::are_few;
 use cesu8_bytes::fast_paths::is_short_unchanged_ascii;
 use cesu8_bytes::flavor::Flavor;
-use cesu8_bytes::lanes::class::LANES;
 
 /// Returns the length of the valid prefix.
 #[inline(always)]
@@ -34,9 +33,10 @@ pub fn valid_up_to_other<F: Flavor>(bytes: &[u8]) -> usize
     ensures { IsValidUpTo F.flavor bytes.now result }
 {
     if are_few(bytes) {
-        return valid_up_to_few::<F>(bytes);
+        let window = window_of_few::<F>(bytes);
+        return (window.ill_formed.trailing_zeros() as usize).min(bytes.len());
     }
-    front_of_many::<F, Encoded>(bytes)
+    longest_prefix::<F, Encoded>(bytes)
 }
 
 /// Returns whether a byte is ill-formed. It stops soon after the first such byte.
@@ -47,14 +47,4 @@ pub fn is_ill_formed<F: Flavor>(bytes: &[u8]) -> bool
         (reading F.flavor bytes.now) }
 {
     valid_up_to_other::<F>(bytes) < bytes.len()
-}
-
-/// Returns the length of the valid prefix of at most 64 bytes.
-#[inline(always)]
-fn valid_up_to_few<F: Flavor>(bytes: &[u8]) -> usize
-    requires { length bytes.now ≤ LANES }
-    ensures { IsValidUpTo F.flavor bytes.now result }
-{
-    let window = window_of_few::<F>(bytes);
-    (window.ill_formed.trailing_zeros() as usize).min(bytes.len())
 }

@@ -13,7 +13,7 @@ ghost use Rattle.simd_cesu8.specs.Calls.{Encodes, DecodesAs, DecodesLossily, Dec
 
 use crate::codec;
 use crate::codec::{
-    Accepts, EncodingAlone, Flavor, Lenient, begins_with_unchanged_ascii, front_unless_kept,
+    Accepts, EncodingAlone, Flavor, Lenient, begins_with_unchanged_ascii, prefix_unless_kept,
     known_text, needs_encoded,
 };
 use crate::cow::{CowBytes, CowText};
@@ -50,7 +50,7 @@ pub fn decode_as<F: Flavor, A: Accepts>(
 ) -> Result<CowText<'_>, DecodeFault>
     ensures { DecodesAs (A.keeps F.flavor bytes.now) (A.reads F.flavor bytes.now) bytes.now result }
 {
-    let Some(front) = front_unless_kept::<F, A>(bytes) else {
+    let Some(front) = prefix_unless_kept::<F, A>(bytes) else {
         return Ok(CowText::Borrowed(known_text(bytes)));
     };
     let built = codec::decode_strict::<F>(alloc, bytes, front)?;
@@ -101,7 +101,7 @@ pub fn decode_lossy_as<F: Flavor, A: Accepts>(
     ensures { DecodesLossily F.flavor (A.keeps F.flavor bytes.now)
         (A.reads_lossily F.flavor bytes.now) bytes.now result }
 {
-    let Some(front) = front_unless_kept::<F, A>(bytes) else {
+    let Some(front) = prefix_unless_kept::<F, A>(bytes) else {
         return Ok(CowText::Borrowed(known_text(bytes)));
     };
     let built = codec::decode_lossy::<F>(alloc, bytes, front)?;

@@ -7,7 +7,7 @@ ghost use Rattle.std.specs.Str.{chars};
 ghost use Rattle.std.specs.String.{string_bytes, string_capacity};
 ghost use Rattle.simd_cesu8.specs.Encoding.{encoding};
 ghost use Rattle.simd_cesu8.specs.Reading.{IsStrictReading, HasNoStrictReading};
-ghost use Rattle.cesu8_decode.specs.Front.{IsPartialFront};
+ghost use Rattle.cesu8_decode.specs.Prefixes.{IsProperPrefix};
 ghost use Rattle.simd_cesu8.specs.Fault.{OnInvalid};
 ghost use Rattle.simd_cesu8.specs.Slices.{WritesAnswer, WritesReading, WritesLossyReading};
 
@@ -23,9 +23,9 @@ pub use cesu8_bytes::order::compare_as_utf16;
 use cesu8_bytes::strictness::{LossyReading, StrictReading};
 pub use cesu8_bytes::utf8::known_text;
 pub use cesu8_bytes::writing::copies::{copy, copy_text};
-use cesu8_decode::front::FoundFront;
-pub use cesu8_decode::modes::{Accepts, EncodingAlone, Lenient, front_unless_kept, is_utf8};
-use cesu8_decode::refusal::{Refusal, Unwritten};
+use cesu8_decode::error::{BuildError, WriteError};
+pub use cesu8_decode::modes::{Accepts, EncodingAlone, Lenient, is_utf8, prefix_unless_kept};
+use cesu8_decode::prefix::UnchangedPrefix;
 use cesu8_decode::to_slice;
 pub use cesu8_decode::valid::valid_up_to;
 pub use cesu8_decode::{decode_lossy, decoded_len, lossy_len};
@@ -39,9 +39,9 @@ use std::alloc::Global;
 pub fn decode_strict<F: Flavor>(
     alloc: Global,
     bytes: &[u8],
-    front: FoundFront,
+    front: UnchangedPrefix,
 ) -> Result<String, DecodeFault>
-    requires { IsPartialFront F.flavor bytes.now front }
+    requires { IsProperPrefix F.flavor bytes.now front }
     ensures text { IfOk result (λ text.
         IsStrictReading F.flavor bytes.now (chars (string_bytes text))) }
     ensures capacity { IfOk result (λ text. string_capacity text ≡ length bytes.now) }
@@ -49,8 +49,8 @@ pub fn decode_strict<F: Flavor>(
 {
     match cesu8_decode::decode_strict::<F>(alloc, bytes, front) {
         Ok(text) => Ok(text),
-        Err(Refusal::NoText) => Err(DecodeFault::Invalid(DecodingError(()))),
-        Err(Refusal::Memory(error)) => Err(DecodeFault::Memory(error)),
+        Err(BuildError::NoText) => Err(DecodeFault::Invalid(DecodingError(()))),
+        Err(BuildError::Memory(error)) => Err(DecodeFault::Memory(error)),
     }
 }
 
@@ -76,10 +76,10 @@ pub fn decode_to_slice<F: Flavor, A: Accepts>(
     match to_slice::decode_to_slice::<F, A, StrictReading>(bytes, buf) {
         Ok(len) => Ok(len),
         // A strict reading is never too long.
-        Err(Unwritten::NoText) | Err(Unwritten::TooLong) => {
+        Err(WriteError::NoText) | Err(WriteError::TooLong) => {
             Err(DecodeSliceFault::Invalid(DecodingError(())))
         }
-        Err(Unwritten::NoRoom(no_room)) => {
+        Err(WriteError::NoRoom(no_room)) => {
             Err(DecodeSliceFault::TooShort(TooShort::new(no_room.needed)))
         }
     }
@@ -97,8 +97,8 @@ pub fn decode_lossy_to_slice<F: Flavor, A: Accepts>(
     match to_slice::decode_to_slice::<F, A, LossyReading>(bytes, buf) {
         Ok(len) => Ok(len),
         // All bytes have a lossy reading.
-        Err(Unwritten::NoText) | Err(Unwritten::TooLong) => Err(LossySliceFault::TooLong),
-        Err(Unwritten::NoRoom(no_room)) => {
+        Err(WriteError::NoText) | Err(WriteError::TooLong) => Err(LossySliceFault::TooLong),
+        Err(WriteError::NoRoom(no_room)) => {
             Err(LossySliceFault::TooShort(TooShort::new(no_room.needed)))
         }
     }

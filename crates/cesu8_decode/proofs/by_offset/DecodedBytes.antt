@@ -49,9 +49,9 @@ ended n w small m over =
     (ne_eqb w m (λ e. omega arith) ∙ sym (ne_eqb 0 m (λ e. omega arith)), lt-leb m w (omega arith) ∙ sym (lt-leb m 0 (omega arith)))
 
 -- After characters that have ended, what is written for bytes is the same as after none.
-behind_ended : (f : Flavor) (bytes : List ℕ) (w1 w2 w3 w4 w5 p q : ℕ) → w1 ≤ 1 → w2 ≤ 2 → w3 ≤ 3 → w4 ≤ 4 → w5 ≤ 5 →
+after_ended : (f : Flavor) (bytes : List ℕ) (w1 w2 w3 w4 w5 p q : ℕ) → w1 ≤ 1 → w2 ≤ 2 → w3 ≤ 3 → w4 ≤ 4 → w5 ≤ 5 →
     decoded_after f w1 w2 w3 w4 w5 p q bytes ≡ decoded_after f 0 0 0 0 0 p q bytes
-behind_ended f bytes w1 w2 w3 w4 w5 p q h1 h2 h3 h4 h5 =
+after_ended f bytes w1 w2 w3 w4 w5 p q h1 h2 h3 h4 h5 =
     after_alike f bytes w1 w2 w3 w4 w5 0 0 0 0 0 p q (ended 1 w1 h1) (ended 2 w2 h2) (ended 3 w3 h3) (ended 4 w4 h4) (ended 5 w5 h5)
 
 -- ---- what the bytes of a character become
@@ -64,7 +64,7 @@ Become f bytes text = (p q : ℕ) → decoded_after f 0 0 0 0 0 p q bytes ≡ te
 continued : (f : Flavor) (rest text : List ℕ) (w1 w2 w3 p q : ℕ) → Become f rest text → w1 ≤ 1 → w2 ≤ 2 → w3 ≤ 3 →
     decoded_after f w1 w2 w3 0 0 p q rest ≡ text
 continued f rest text w1 w2 w3 p q become h1 h2 h3 =
-    behind_ended f rest w1 w2 w3 0 0 p q h1 h2 h3 (omega arith) (omega arith) ∙ become p q
+    after_ended f rest w1 w2 w3 0 0 p q h1 h2 h3 (omega arith) (omega arith) ∙ become p q
 
 one_read : (f : Flavor) (c : ℕ) (rest text : List ℕ) → IsScalarValue c → encoding f (c ∷ []) ≡ c ∷ [] →
     Become f rest text → Become f (c ∷ rest) (c ∷ text)
@@ -164,7 +164,7 @@ pub decoded_after_ended : (f : Flavor) (bytes : List ℕ) (w1 w2 w3 w4 w5 p q : 
     decoded_after f w1 w2 w3 w4 w5 p q bytes ≡ utf8 (reading f bytes)
 decoded_after_ended f bytes w1 w2 w3 w4 w5 p q h1 h2 h3 h4 h5 =
     let cutting = greedy_cutting f bytes in
-    behind_ended f bytes w1 w2 w3 w4 w5 p q h1 h2 h3 h4 h5
+    after_ended f bytes w1 w2 w3 w4 w5 p q h1 h2 h3 h4 h5
     ∙ ap (decoded_after f 0 0 0 0 0 p q) (sym cutting.cuts.1)
     ∙ pieces_read f cutting.pieces cutting.cuts.0 cutting.greedy p q
     ∙ ap utf8 (places f bytes cutting.pieces cutting.cuts cutting.greedy)

@@ -44,20 +44,20 @@ pub decoded_between : (f : Flavor) (window bytes : List ℕ) (n : ℕ) → Follo
     is_boundary_at f window 0 ≡ true → is_boundary_at f window n ≡ true →
     decoded f window 0 n ≡ utf8 (reading f (take n bytes))
 decoded_between f window bytes n follows fits first boundary =
-    let front = take n bytes in
+    let prefix = take n bytes in
     let back = drop n bytes in
     let all : n + length back ≡ length bytes = omega (arith, length-drop n bytes) in
-    let behind : decoded f window (0 + n) (length back) ≡ utf8 (reading f back) =
+    let last : decoded f window (0 + n) (length back) ≡ utf8 (reading f back) =
     ap (λ i. decoded f window i (length back)) (zero-add n)
     ∙ decoded_from_boundary f window back n (follows_later window bytes 5 n follows) boundary in
-    append_cancel_right (decoded f window 0 n) (utf8 (reading f front)) (utf8 (reading f back))
-    (ap (λ bs. decoded f window 0 n ++ bs) (sym behind)
+    append_cancel_right (decoded f window 0 n) (utf8 (reading f prefix)) (utf8 (reading f back))
+    (ap (λ bs. decoded f window 0 n ++ bs) (sym last)
     ∙ sym (decoded_split f window 0 n (length back))
     ∙ ap (decoded f window 0) all
     ∙ decoded_from_boundary f window bytes 0 follows first
     ∙ ap (λ bs. utf8 (reading f bs)) (sym (take-append-drop n bytes))
-    ∙ ap utf8 ((split f front back).1 (none_crosses_boundary f window bytes n follows fits boundary))
-    ∙ utf8_append (reading f front) (reading f back))
+    ∙ ap utf8 ((split f prefix back).1 (none_crosses_boundary f window bytes n follows fits boundary))
+    ∙ utf8_append (reading f prefix) (reading f back))
 
 -- A window on all of the bytes: five zeros, the bytes, and zeros.
 abbrev pub IsPadded : List ℕ → List ℕ → Type 0

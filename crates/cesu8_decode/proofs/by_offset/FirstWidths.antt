@@ -16,7 +16,7 @@ ascii_forms Cesu8 c ascii = inl (encoding_one Cesu8 c ascii)
 ascii_forms Mutf8 c ascii = grind (arith, encoding_one, short_form_null, short_form_other)
 
 -- The encoding of a character, and whatever follows it, begins with this character.
-pub begins_encoded : (f : Flavor) (c : ℕ) (prefix rest : List ℕ) → IsScalarValue c → encoding f (c ∷ []) ≡ prefix →
+begins_encoded : (f : Flavor) (c : ℕ) (prefix rest : List ℕ) → IsScalarValue c → encoding f (c ∷ []) ≡ prefix →
     BeginsWith f (prefix ++ rest) c rest
 begins_encoded f c prefix rest scalar same = record { scalar = scalar; bytes_are = ap (λ bs. bs ++ rest) (sym same) }
 
@@ -58,7 +58,7 @@ width_of_none f bytes none_begins =
     (λ (none : first_width f bytes ≤ 0). omega arith) (cases_lt 0 (first_width f bytes))
 
 -- No character begins inside a character.
-pub width_inside : (f : Flavor) (bytes : List ℕ) (c j : ℕ) (rest : List ℕ) → BeginsWith f bytes c rest → 0 < j → j < width f c →
+width_inside : (f : Flavor) (bytes : List ℕ) (c j : ℕ) (rest : List ℕ) → BeginsWith f bytes c rest → 0 < j → j < width f c →
     first_width f (drop j bytes) ≡ 0
 width_inside f bytes c j rest begins later inside =
     width_of_none f (drop j bytes) (λ d more other. none_inside f bytes c d j rest begins (more, other) later inside)

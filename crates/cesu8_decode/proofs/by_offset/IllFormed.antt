@@ -1,8 +1,8 @@
 -- Bytes have a strict reading if and only if encoded characters cover all of them.
-use Rattle.std.proofs.Common.{◌≡◌, ℕ, ◌+◌, ◌-◌, ◌<◌, ◌≤◌, ◌⊎◌, ⊎_elim, true, false, List, [], ◌∷◌, ◌++◌, refl, sym, ap, ◌∙◌, subst, inl, inr, arith, length, drop, length-append, append_assoc, add-zero, zero-add, length-drop}
+use Rattle.std.proofs.Common.{◌≡◌, ℕ, ◌+◌, ◌-◌, ◌<◌, ◌≤◌, ◌⊎◌, ⊎_elim, true, false, List, [], ◌∷◌, ◌++◌, refl, sym, ap, ◌∙◌, subst, inl, inr, arith, length, take, drop, length-append, append_assoc, add-zero, zero-add, length-drop}
 use Rattle.std.proofs.lemmas.Bool.{cases_lt}
 use Rattle.std.proofs.lemmas.Bool.Decides.{nat_tests}
-use Rattle.std.proofs.lemmas.List.{drop-append-le}
+use Rattle.std.proofs.lemmas.List.{drop-append-le, take-append-drop, length-take-le}
 use Rattle.cesu8_text.specs.Text.{IsScalarValue, IsText, utf8}
 use Rattle.cesu8_text.specs.Encoding.{Flavor, encoding}
 use Rattle.cesu8_text.specs.Reading.{BeginsWith, NoneBegins, StandsAt, width, reading, IsStrictReading}
@@ -122,23 +122,23 @@ none_crosses_encoding f (d ∷ text) rest is_text =
 fault_not_covered : (f : Flavor) (text rest : List ℕ) → IsText text → NoneBegins f rest →
     IsCovered f (encoding f text ++ rest) (length (encoding f text)) → ⊥
 fault_not_covered f text rest is_text none_begins covered =
-    let front = encoding f text in
-    ⊎_elim (λ (before : covered.offset < length front).
+    let prefix = encoding f text in
+    ⊎_elim (λ (before : covered.offset < length prefix).
     omega (arith, covered.ends, none_crosses_encoding f text rest is_text covered.offset covered.character covered.stands before))
-    (λ (from : length front ≤ covered.offset).
-    let here : covered.offset ≡ length front + 0 = omega (arith, covered.begun) in
-    let begins = earlier f front rest 0 covered.character (subst (λ j. StandsAt f (front ++ rest) j covered.character) here covered.stands) in
+    (λ (from : length prefix ≤ covered.offset).
+    let here : covered.offset ≡ length prefix + 0 = omega (arith, covered.begun) in
+    let begins = earlier f prefix rest 0 covered.character (subst (λ j. StandsAt f (prefix ++ rest) j covered.character) here covered.stands) in
     none_begins covered.character begins.0 begins.1)
-    (cases_lt covered.offset (length front))
+    (cases_lt covered.offset (length prefix))
 
 -- Bytes whose offsets are all covered are the encoding of their lossy reading.
-pub covered_read : (f : Flavor) (bytes : List ℕ) → ((i : ℕ) → i < length bytes → IsCovered f bytes i) → IsStrictReading f bytes (reading f bytes)
+covered_read : (f : Flavor) (bytes : List ℕ) → ((i : ℕ) → i < length bytes → IsCovered f bytes i) → IsStrictReading f bytes (reading f bytes)
 covered_read f bytes covered =
     ⊎_elim (λ whole. whole)
     (λ (fault : HasFault f bytes).
-    let front = encoding f fault.before.text in
+    let prefix = encoding f fault.before.text in
     let bytes_are = fault.before.strict_reading refl in
-    let there = subst (λ bs. (i : ℕ) → i < length bs → IsCovered f bs i) bytes_are covered (length front) (omega (arith, length-append front fault.rest, fault.some)) in
+    let there = subst (λ bs. (i : ℕ) → i < length bs → IsCovered f bs i) bytes_are covered (length prefix) (omega (arith, length-append prefix fault.rest, fault.some)) in
     absurd (fault_not_covered f fault.before.text fault.rest fault.before.scalars fault.none_begins there))
     (whole_or_faulty f bytes)
 
@@ -148,17 +148,17 @@ uncovered_fault f bytes i inside uncovered = grind (arith, whole_or_faulty f byt
 
 -- If no character crosses the end of a prefix, an offset in it that is covered is covered by a
 -- character of the prefix.
-pub covered_in_front : (f : Flavor) (front back : List ℕ) (i : ℕ) → NoneCrosses f front back → i < length front →
-    IsCovered f (front ++ back) i → IsCovered f front i
-covered_in_front f front back i crosses inside covered =
+covered_in_prefix : (f : Flavor) (prefix back : List ℕ) (i : ℕ) → NoneCrosses f prefix back → i < length prefix →
+    IsCovered f (prefix ++ back) i → IsCovered f prefix i
+covered_in_prefix f prefix back i crosses inside covered =
     let p = covered.offset in
     let c = covered.character in
     let begun = covered.begun in
     let ended = crosses p c covered.stands (omega arith) in
-    let begins = subst (λ bs. BeginsWith f bs c covered.stands.0) (drop-append-le p front back (omega arith)) covered.stands.1 in record {
+    let begins = subst (λ bs. BeginsWith f bs c covered.stands.0) (drop-append-le p prefix back (omega arith)) covered.stands.1 in record {
       offset = p;
       character = c;
-      stands = (drop (width f c) (drop p front), begins_front f (drop p front) back covered.stands.0 c begins (omega (arith, length-drop p front)));
+      stands = (drop (width f c) (drop p prefix), begins_front f (drop p prefix) back covered.stands.0 c begins (omega (arith, length-drop p prefix)));
       begun = begun;
       ends = covered.ends;
     }
@@ -216,3 +216,12 @@ module _ (f : Flavor) (window bytes : List ℕ) (follows : Follows window bytes 
       omega (arith, not_reached f window i ill_formed (p + 5 - i) (omega arith), ap (width_at f window) offset))
       (λ (far : p + 6 ≤ i). omega (arith, width_bounds f window (p + 5)))
       (cases_lt i (p + 6))
+
+  -- If no byte before an offset is ill-formed, and no character crosses the offset, the bytes before
+  -- it are the encoding of their lossy reading.
+  pub read_before : (n : ℕ) → n ≤ length bytes → NoneCrosses f (take n bytes) (drop n bytes) →
+      ((i : ℕ) → i < n → is_ill_formed_at f window i ≡ false) → IsStrictReading f (take n bytes) (reading f (take n bytes))
+  read_before n fits crosses fine =
+      let long = length-take-le n bytes fits in
+      covered_read f (take n bytes) (λ i inside. covered_in_prefix f (take n bytes) (drop n bytes) i crosses inside
+      (subst (λ bs. IsCovered f bs i) (sym (take-append-drop n bytes)) (covered_where i (omega arith) (fine i (omega arith)))))

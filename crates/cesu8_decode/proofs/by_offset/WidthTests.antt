@@ -15,7 +15,7 @@ use Rattle.cesu8_decode.proofs.by_offset.FirstWidths.{width_of_first, width_of_n
 
 -- If the byte at an offset is not 0, the bytes are longer than the offset: `get_or` is 0 after the
 -- end.
-pub long_by : (bytes : List ℕ) (i : ℕ) → 0 < get_or bytes i 0 → i < length bytes
+long_by : (bytes : List ℕ) (i : ℕ) → 0 < get_or bytes i 0 → i < length bytes
 long_by bytes i some = ⊎_elim (λ h. h) (λ past. absurd (omega (arith, get_or_past bytes i 0 past))) (cases_lt i (length bytes))
 
 pub continuation : (b : ℕ) → continues b ≡ true → IsContinuation b
@@ -30,7 +30,7 @@ by_found f bytes m n found = width_of_first f bytes found.character found.rest f
 
 -- ---- each test identifies a character
 
-pub one_found : (f : Flavor) (bytes : List ℕ) → 0 < length bytes → one_at f (get_or bytes 0 0) ≡ true → first_width f bytes ≡ 1
+one_found : (f : Flavor) (bytes : List ℕ) → 0 < length bytes → one_at f (get_or bytes 0 0) ≡ true → first_width f bytes ≡ 1
 one_found f bytes some t = by_found f bytes 1 1 (found_one f bytes some (grind (arith, nat_tests)) (grind (arith, nat_tests)))
 
 pub null_found : (f : Flavor) (bytes : List ℕ) → null_at f (get_or bytes 0 0) (get_or bytes 1 0) ≡ true → first_width f bytes ≡ 2
@@ -38,13 +38,13 @@ null_found f bytes t =
     let parts : (f ≡ Mutf8) × (get_or bytes 0 0 ≡ 0xC0) × (get_or bytes 1 0 ≡ 0x80) = grind (arith, nat_tests) in
     by_found f bytes 2 1 (found_null f bytes parts.0 (omega (arith, parts, long_by bytes 1 (omega (arith, parts)))) parts.1 parts.2)
 
-pub two_found : (f : Flavor) (bytes : List ℕ) → two_at (get_or bytes 0 0) (get_or bytes 1 0) ≡ true → first_width f bytes ≡ 2
+two_found : (f : Flavor) (bytes : List ℕ) → two_at (get_or bytes 0 0) (get_or bytes 1 0) ≡ true → first_width f bytes ≡ 2
 two_found f bytes t =
     let parts : (0xC2 ≤ get_or bytes 0 0) × (get_or bytes 0 0 < 0xE0) × IsContinuation (get_or bytes 1 0) = grind (arith, nat_tests) in
     let long = long_by bytes 1 (omega (arith, parts)) in
     by_found f bytes 2 2 (found_two f bytes (omega arith) parts.0 parts.1 parts.2)
 
-pub three_found : (f : Flavor) (bytes : List ℕ) → three_at (get_or bytes 0 0) (get_or bytes 1 0) (get_or bytes 2 0) ≡ true → first_width f bytes ≡ 3
+three_found : (f : Flavor) (bytes : List ℕ) → three_at (get_or bytes 0 0) (get_or bytes 1 0) (get_or bytes 2 0) ≡ true → first_width f bytes ≡ 3
 three_found f bytes t =
     let a = get_or bytes 0 0 in
     let b = get_or bytes 1 0 in
@@ -68,7 +68,7 @@ pair_found f bytes t =
 -- ---- no test passes
 
 -- If all tests fail, no character begins the bytes.
-abbrev pub AllFail : Flavor → (a b d e g h : ℕ) → Type 0
+abbrev AllFail : Flavor → (a b d e g h : ℕ) → Type 0
 AllFail f a b d e g h =
     (one_at f a ≡ false) × (null_at f a b ≡ false) × (two_at a b ≡ false) × (three_at a b d ≡ false) × (pair_at a b d e g h ≡ false)
 
@@ -78,7 +78,7 @@ no_pattern : (f : Flavor) (bytes : List ℕ) (c : ℕ) →
     Pattern f bytes c → ⊥
 no_pattern f bytes c fail h2 = grind (arith, nat_tests)
 
-pub none_found : (f : Flavor) (bytes : List ℕ) →
+none_found : (f : Flavor) (bytes : List ℕ) →
     AllFail f (get_or bytes 0 0) (get_or bytes 1 0) (get_or bytes 2 0) (get_or bytes 3 0) (get_or bytes 4 0) (get_or bytes 5 0) →
     first_width f bytes ≡ 0
 none_found f bytes fail = width_of_none f bytes (λ c rest begins. no_pattern f bytes c fail (pattern f bytes c rest begins))

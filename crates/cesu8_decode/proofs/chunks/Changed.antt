@@ -66,7 +66,7 @@ null_read f which bytes old new null new_is =
 
 -- A character of six bytes is a surrogate pair, and the four bytes computed from its digits are its
 -- UTF-8.
-pair_utf8 : (f : Flavor) (bytes four : List ℕ) (found : IsWide f bytes) → Shape found.character → first_width f bytes ≡ 6 →
+pub pair_utf8 : (f : Flavor) (bytes four : List ℕ) (found : IsWide f bytes) → Shape found.character → first_width f bytes ≡ 6 →
     IsUtf8OfDigits (second_third_fifth_sixth bytes) four → four ≡ utf8_of found.character
 pair_utf8 f bytes four found (one ascii) width_is is_utf8 =
     ⊎_elim (λ same. absurd (omega (arith, width_is, found.wide, ap length same)))

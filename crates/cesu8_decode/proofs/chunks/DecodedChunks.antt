@@ -3,7 +3,7 @@
 use Rattle.std.proofs.Common.{◌≡◌, ℕ, ◌+◌, ◌<◌, ◌≤◌, true, false, List, [], ◌∷◌, sym, ◌∙◌, subst, inr, arith, length, take, drop}
 use Rattle.std.specs.Prelude.{slice_index}
 use Rattle.std.proofs.lemmas.Bool.Decides.{nat_tests}
-use Rattle.std.proofs.lemmas.List.{take-append-drop, length-take-le}
+use Rattle.std.proofs.lemmas.List.{take-append-drop}
 use Rattle.cesu8_text.specs.Text.{IsText, utf8}
 use Rattle.cesu8_text.specs.Encoding.{Flavor}
 use Rattle.cesu8_text.specs.Reading.{reading, IsStrictReading}
@@ -17,7 +17,7 @@ use Rattle.cesu8_text.proofs.reading.Greedy.{places}
 use Rattle.cesu8_text.proofs.reading.Splits.{split}
 use Rattle.cesu8_decode.proofs.by_offset.WindowOffsets.{is_boundary_at, Agree, follows_zeros, boundary_agrees, ill_formed_agrees, decoded_agrees}
 use Rattle.cesu8_decode.proofs.by_offset.CharacterBoundaries.{boundary_of_zeros, none_crosses_boundary}
-use Rattle.cesu8_decode.proofs.by_offset.IllFormed.{IsChunk, HasFault, IsCovered, chunk_of_text, covered_read, uncovered_fault, covered_where, not_covered_where, covered_in_front}
+use Rattle.cesu8_decode.proofs.by_offset.IllFormed.{IsChunk, HasFault, chunk_of_text, uncovered_fault, not_covered_where, read_before}
 use Rattle.cesu8_decode.proofs.by_offset.DecodedText.{IsPadded, decoded_between}
 
 -- ---- chunks
@@ -87,12 +87,8 @@ module _ (f : Flavor) (bytes window : List ℕ) (n : ℕ) (padded : IsPaddedFor 
       -- If none of its bytes is ill-formed, this is their strict reading.
       strict_window : ((i : ℕ) → i < n → is_ill_formed_at f window i ≡ false) → IsStrictReading f (take n bytes) (reading f (take n bytes))
       strict_window fine =
-          let long = length-take-le n bytes fits in
-          covered_read f (take n bytes) (λ i inside.
-          covered_in_front f (take n bytes) (drop n bytes) i none_crosses_window inside
-          (subst (λ bs. IsCovered f bs i) (sym (take-append-drop n bytes))
-          (covered_where f all bytes (follows_zeros bytes) (boundary_of_zeros f bytes) i (omega arith)
-          (sym (ill_formed_agrees f window all i i (agrees i 11 (omega arith))) ∙ fine i (omega arith)))))
+          read_before f all bytes (follows_zeros bytes) (boundary_of_zeros f bytes) n fits none_crosses_window
+          (λ i inside. sym (ill_formed_agrees f window all i i (agrees i 11 (omega arith))) ∙ fine i inside)
 
       -- What is written for the window is a chunk in lossy decoding.
       pub lossy_chunk : IsChunk f Lossy bytes (drop n bytes) (decoded f window 0 n)

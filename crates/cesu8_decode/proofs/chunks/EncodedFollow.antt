@@ -1,7 +1,7 @@
 -- The bytes of whole characters can follow each other.
 use Rattle.std.proofs.Common.{◌≡◌, ℕ, ◌+◌, ◌<◌, ◌≤◌, ◌⊎◌, inl, inr, true, false, List, [], ◌∷◌, ◌++◌, refl, subst, arith, length, take}
 use Rattle.std.specs.List.{Any}
-use Rattle.std.proofs.lemmas.Bool.{lt-leb, le-leb, le-ltb, cases_Bool}
+use Rattle.std.proofs.lemmas.Bool.{lt-leb, le-leb, cases_Bool}
 use Rattle.std.proofs.lemmas.Bool.Decides.{nat_tests}
 use Rattle.cesu8_text.specs.Class.{is_null}
 use Rattle.cesu8_text.specs.Text.{IsScalarValue, IsText}
@@ -13,40 +13,37 @@ use Rattle.cesu8_text.proofs.encoding.Forms.{encoding_one, encoding_two, encodin
 use Rattle.cesu8_text.proofs.encoding.Lengths.{otherwise}
 use Rattle.cesu8_bytes.specs.Pairs.{null_at}
 use Rattle.cesu8_decode.specs.DecodedOffsets.{continues}
-use Rattle.cesu8_decode.specs.Following.{CharacterSet, Encoded, Unchanged, has_changed, first_low, shown, after_fillers}
-use Rattle.cesu8_decode.specs.Front.{AreWhole, IsOutside}
+use Rattle.cesu8_decode.specs.Following.{CharacterSet, Encoded, Unchanged, has_changed, first_low, pair_class, after_fillers}
+use Rattle.cesu8_decode.specs.Prefixes.{AreWhole, IsOutside}
 use Rattle.cesu8_decode.proofs.by_offset.WidthTests.{is_continuation}
 use Rattle.cesu8_decode.proofs.chunks.FollowingBytes.{Ends, FollowToEnd, FollowBefore, by_index, start, short_of, low_if_meant}
 
 -- ---- the class of a byte
 
--- A byte greater than 0 is no null, and a byte from C0 on is no continuation byte.
+-- A byte greater than 0 is no null.
 no_null : (f : Flavor) (b : ℕ) → 0 < b → is_null f b ≡ false
 no_null f b some = grind (arith, nat_tests)
 
-no_continuation : (b : ℕ) → 0xC0 ≤ b → continues b ≡ false
-no_continuation b high = rw (le-leb 0x80 b (omega arith), le-ltb b 0xC0 high) refl
-
 -- The class of a first byte after the end of a character is 0.
-shows_begin : (s : CharacterSet) (f : Flavor) (a b : ℕ) → a < 0xC0 → is_null f b ≡ false → continues b ≡ false → shown s f a b ≡ 0
-unfolding shown
-shows_begin s f a b behind null other = rw (null, lt-leb 0xF0 a (omega arith), other, lt-leb 0xC0 a behind) refl
+class_of_first : (s : CharacterSet) (f : Flavor) (a b : ℕ) → a < 0xC0 → is_null f b ≡ false → continues b ≡ false → pair_class s f a b ≡ 0
+unfolding pair_class
+class_of_first s f a b no_lead null other = rw (null, lt-leb 0xF0 a (omega arith), other, lt-leb 0xC0 a no_lead) refl
 
 -- The class of the second byte of a character is 0.
-shows_second : (s : CharacterSet) (f : Flavor) (a b : ℕ) → 0xC2 ≤ a → a < 0xF0 → 0x80 ≤ b → b < 0xC0 → (a ≡ 0xE0 → 0xA0 ≤ b) → (a ≡ 0xED → b < first_low s) →
-    shown s f a b ≡ 0
-unfolding shown
-shows_second s f a b leads fits low high no_overlong no_low = grind (arith, nat_tests)
+class_of_second : (s : CharacterSet) (f : Flavor) (a b : ℕ) → 0xC2 ≤ a → a < 0xF0 → 0x80 ≤ b → b < 0xC0 → (a ≡ 0xE0 → 0xA0 ≤ b) → (a ≡ 0xED → b < first_low s) →
+    pair_class s f a b ≡ 0
+unfolding pair_class
+class_of_second s f a b leads fits low high no_overlong no_low = grind (arith, nat_tests)
 
 -- The class of the third byte of a character is 80.
-shows_third : (s : CharacterSet) (f : Flavor) (a b : ℕ) → 0x80 ≤ a → a < 0xC0 → 0x80 ≤ b → b < 0xC0 → shown s f a b ≡ 0x80
-unfolding shown
-shows_third s f a b a_low a_high low high = grind (arith, nat_tests)
+class_of_third : (s : CharacterSet) (f : Flavor) (a b : ℕ) → 0x80 ≤ a → a < 0xC0 → 0x80 ≤ b → b < 0xC0 → pair_class s f a b ≡ 0x80
+unfolding pair_class
+class_of_third s f a b a_low a_high low high = grind (arith, nat_tests)
 
 -- The class of the second byte of a low surrogate is 20.
-shows_low : (s : CharacterSet) (f : Flavor) (b : ℕ) → first_low s ≤ b → 0xB0 ≤ b → b < 0xC0 → shown s f 0xED b ≡ 0x20
-unfolding shown
-shows_low s f b is_low low high = rw (no_null f b (omega arith), is_continuation b (omega arith) high, le-leb (first_low s) b is_low) refl
+class_of_low : (s : CharacterSet) (f : Flavor) (b : ℕ) → first_low s ≤ b → 0xB0 ≤ b → b < 0xC0 → pair_class s f 0xED b ≡ 0x20
+unfolding pair_class
+class_of_low s f b is_low low high = rw (no_null f b (omega arith), is_continuation b (omega arith) high, le-leb (first_low s) b is_low) refl
 
 -- ---- one character after another
 
@@ -58,19 +55,19 @@ below_low s b low = grind arith
 -- any whole character.
 module _ (s : CharacterSet) (f : Flavor) (rest : List ℕ) (then : (a b d e : ℕ) → Ends s a b d e → FollowToEnd s f a b d e rest) (a b d e : ℕ) (ends : Ends s a b d e) where
   fit_one : (g : ℕ) → g < 0x80 → is_null f g ≡ false → FollowToEnd s f a b d e (g ∷ rest)
-  fit_one g ascii null = (grind (arith, nat_tests, shows_begin), then b d e g (grind (arith, nat_tests)))
+  fit_one g ascii null = (grind (arith, nat_tests, class_of_first), then b d e g (grind (arith, nat_tests)))
 
-  fit_two : (g h : ℕ) → 0xC0 ≤ g → g < 0xE0 → shown s f g h ≡ 0 → h < 0xC0 → FollowToEnd s f a b d e (g ∷ h ∷ rest)
+  fit_two : (g h : ℕ) → 0xC0 ≤ g → g < 0xE0 → pair_class s f g h ≡ 0 → h < 0xC0 → FollowToEnd s f a b d e (g ∷ h ∷ rest)
   fit_two g h leads low shows high =
-      (grind (arith, nat_tests, no_null, shows_begin), (grind (arith, nat_tests), then d e g h (grind (arith, nat_tests))))
+      (grind (arith, nat_tests, no_null, class_of_first), (grind (arith, nat_tests), then d e g h (grind (arith, nat_tests))))
 
   fit_three : (g h i : ℕ) → 0xE0 ≤ g → g < 0xF0 → 0x80 ≤ h → h < 0xC0 → (g ≡ 0xE0 → 0xA0 ≤ h) → (g ≡ 0xED → h < 0xA0) →
       0x80 ≤ i → i < 0xC0 → FollowToEnd s f a b d e (g ∷ h ∷ i ∷ rest)
-  fit_three g h i leads small h_low h_high no_overlong no_surrogate i_low i_high = grind (arith, nat_tests, below_low, shows_second, shows_third, no_null, shows_begin)
+  fit_three g h i leads small h_low h_high no_overlong no_surrogate i_low i_high = grind (arith, nat_tests, below_low, class_of_second, class_of_third, no_null, class_of_first)
 
   fit_pair : (h i l m : ℕ) → has_changed s ≡ true → 0xA0 ≤ h → h < 0xB0 → 0x80 ≤ i → i < 0xC0 → 0xB0 ≤ l → l < 0xC0 → 0x80 ≤ m → m < 0xC0 →
       FollowToEnd s f a b d e (0xED ∷ h ∷ i ∷ 0xED ∷ l ∷ m ∷ rest)
-  fit_pair h i l m meant h_low h_high i_low i_high l_low l_high m_low m_high = grind (arith, nat_tests, low_if_meant, no_null, shows_begin, shows_second, shows_third, shows_low)
+  fit_pair h i l m meant h_low h_high i_low i_high l_low l_high m_low m_high = grind (arith, nat_tests, low_if_meant, no_null, class_of_first, class_of_second, class_of_third, class_of_low)
 
 -- U+0000 in MUTF-8 has a form of two bytes.
 null_form : (f : Flavor) (c : ℕ) → is_null f c ≡ true →
@@ -80,7 +77,7 @@ null_form f c null = grind (arith, nat_tests)
 -- The bytes of one character of the set and of the rest can follow each other, for each form.
 module _ (s : CharacterSet) (f : Flavor) (c : ℕ) (meant : IsEncodedOtherwise f c → has_changed s ≡ true) (rest : List ℕ) (then : (a b d e : ℕ) → Ends s a b d e → FollowToEnd s f a b d e rest) (a b d e : ℕ) (ends : Ends s a b d e) where
   fit_short : c < 0x80 → (is_null f c ≡ true) ⊎ (is_null f c ≡ false) → FollowToEnd s f a b d e (short_form f c ++ rest)
-  unfolding shown
+  unfolding pair_class
   fit_short ascii (inl null) =
       let form = null_form f c null in
       rw form.0 (fit_two s f rest then a b d e ends 0xC0 0x80 (omega arith) (omega arith) (rw (no_null f 0x80 (omega arith), meant form.2, form.1) refl) (omega arith))
@@ -93,7 +90,7 @@ module _ (s : CharacterSet) (f : Flavor) (c : ℕ) (meant : IsEncodedOtherwise f
   fit_character scalar (one ascii) = rw (encoding_one f c ascii) (fit_short ascii (cases_Bool (is_null f c)))
   fit_character scalar (two x y digits) =
       rw (encoding_two f c x y digits)
-      (fit_two s f rest then a b d e ends (0xC0 + x) (0x80 + y) (omega arith) (omega arith) (grind (arith, shows_second)) (omega arith))
+      (fit_two s f rest then a b d e ends (0xC0 + x) (0x80 + y) (omega arith) (omega arith) (grind (arith, class_of_second)) (omega arith))
   fit_character scalar (three x y z digits) =
       rw (encoding_three f c x y z digits)
       (fit_three s f rest then a b d e ends (0xE0 + x) (0x80 + y) (0x80 + z) (omega arith) (omega arith) (omega arith) (omega arith)

@@ -8,9 +8,9 @@ use Rattle.cesu8_text.specs.Patterns.{IsContinuation}
 use Rattle.cesu8_text.proofs.encoding.Found.{BeginsInLengths, found_one, found_null, found_two, found_three, found_pair}
 use Rattle.cesu8_bytes.specs.Pairs.{null_at}
 use Rattle.cesu8_decode.specs.Following.{CharacterSet, has_changed, first_low, is_high_surrogate, follows, follows_at, after_fillers, FirstFollow, crosses, crosses_at}
-use Rattle.cesu8_decode.specs.Front.{AreWhole}
+use Rattle.cesu8_decode.specs.Prefixes.{AreWhole}
 use Rattle.cesu8_decode.proofs.by_offset.WidthTests.{continuation}
-use Rattle.cesu8_decode.proofs.chunks.ShownBytes.{Begins, IsSecond, if_nothing, if_third, if_low}
+use Rattle.cesu8_decode.proofs.chunks.ByteClasses.{Begins, IsSecond, if_nothing, if_third, if_low}
 use Rattle.cesu8_decode.proofs.chunks.WholeBytes.{none_whole, whole_with}
 
 -- A high surrogate begins with ED and a byte from A0 to AF.

@@ -12,8 +12,8 @@ use Rattle.cesu8_bytes.specs.declared.strictness.Strictness.TheVariants.{Strict,
 use Rattle.cesu8_text.specs.Slices.{StandsAtFront, ReadsAtLength}
 use Rattle.cesu8_bytes.specs.Puts.{PutsAnswer}
 use Rattle.cesu8_decode.specs.PutReadings.{PutsText, ReadsAs, IsReadingOf}
-use Rattle.cesu8_decode.specs.declared.refusal.Unwritten.{Unwritten}
-use Rattle.cesu8_decode.specs.declared.refusal.Unwritten.TheVariants as unwritten
+use Rattle.cesu8_decode.specs.declared.error.WriteError.{WriteError}
+use Rattle.cesu8_decode.specs.declared.error.WriteError.TheVariants as write_error
 use Rattle.cesu8_bytes.specs.declared.writing.copies.NoRoom.{NoRoom}
 use Rattle.cesu8_text.proofs.StdUtf8.{IsUtf8Of_chars}
 use Rattle.cesu8_text.proofs.encoding.Lengths.{length_bounds}
@@ -48,7 +48,7 @@ only_strict f bytes text reads = record {
 }
 
 -- The text of decoded bytes, or of a chunk that is all of them, is the only text.
-pub only_decoded : (f : Flavor) (which : Strictness) (bytes text : List ℕ) → IsDecodedText f which bytes text →
+only_decoded : (f : Flavor) (which : Strictness) (bytes text : List ℕ) → IsDecodedText f which bytes text →
     IsOnlyText (IsReadingOf f which bytes) text (utf8 text)
 only_decoded f Strict bytes text is = only_strict f bytes text (is.0, is.2 refl)
 only_decoded f Lossy bytes text is = record { reads = is.1; only = λ other same. same ∙ sym is.1; utf8_is = refl }
@@ -79,8 +79,8 @@ module _ (f : Flavor) (bytes : List ℕ) (keeps : Type 0) (reads reads_lossily :
 
 -- In strict decoding the input has no text.
 pub no_strict_text : (f : Flavor) (which : Strictness) (bytes buf : List ℕ) → (which ≡ Strict) × HasNoStrictReading f bytes →
-    PutsText which (IsReadingOf f which bytes) (Err unwritten.NoText) buf buf
-no_strict_text f which bytes buf refused = grind (arith, nat_tests)
+    PutsText which (IsReadingOf f which bytes) (Err write_error.NoText) buf buf
+no_strict_text f which bytes buf none = grind (arith, nat_tests)
 
 module _ (which : Strictness) (IsReading : List ℕ → Type 0) (text answer buf : List ℕ) (is : IsOnlyText IsReading text answer) (small : length answer < 2 ^ 64) where
   -- The answer is written to a slice that is long enough.
@@ -89,37 +89,37 @@ module _ (which : Strictness) (IsReading : List ℕ → Type 0) (text answer buf
 
   -- The length of the answer is returned if the slice is too short.
   pub room_lacks : (no_room : NoRoom) → no_room.needed ≡ length answer → length buf < length answer →
-      PutsText which IsReading (Err (unwritten.NoRoom no_room)) buf buf
+      PutsText which IsReading (Err (write_error.NoRoom no_room)) buf buf
   room_lacks no_room needed short = grind (arith, nat_tests)
 
 -- A copy of the answer to the slice keeps the promise: it succeeds, or reports that the slice is
 -- too short.
-text_put : (which : Strictness) (IsReading : List ℕ → Type 0) (text answer : List ℕ) (r : Result ℕ NoRoom) (told : Result ℕ Unwritten) (old new : List ℕ) →
+text_put : (which : Strictness) (IsReading : List ℕ → Type 0) (text answer : List ℕ) (r : Result ℕ NoRoom) (returned : Result ℕ WriteError) (old new : List ℕ) →
     IsOnlyText IsReading text answer → length answer < 2 ^ 64 →
-    MatchResult r (λ len. told ≡ Ok len) (λ fault. IsErrAnd told (λ d. d ≡ unwritten.NoRoom fault)) →
-    PutsAnswer answer r old new → PutsText which IsReading told old new
-text_put which IsReading text answer r told old new is small told_is puts = grind (arith, nat_tests)
+    MatchResult r (λ len. returned ≡ Ok len) (λ fault. IsErrAnd returned (λ d. d ≡ write_error.NoRoom fault)) →
+    PutsAnswer answer r old new → PutsText which IsReading returned old new
+text_put which IsReading text answer r returned old new is small returned_is puts = grind (arith, nat_tests)
 
 -- If a call returns its input unchanged, a copy of it to the slice keeps the promise.
 pub kept_put : (f : Flavor) (bytes : List ℕ) (keeps : Type 0) (reads reads_lossily : List ℕ → Type 0) → KnowsTexts f bytes keeps reads reads_lossily →
-    (which : Strictness) → keeps → (r : Result ℕ NoRoom) (told : Result ℕ Unwritten) (old new : List ℕ) → length bytes < 2 ^ 64 →
-    MatchResult r (λ len. told ≡ Ok len) (λ fault. IsErrAnd told (λ d. d ≡ unwritten.NoRoom fault)) →
-    PutsAnswer bytes r old new → PutsText which (ReadsAs which reads reads_lossily) told old new
-kept_put f bytes keeps reads reads_lossily known which kept r told old new small told_is puts =
-    text_put which (ReadsAs which reads reads_lossily) (chars bytes) bytes r told old new
-    (only_kept f bytes keeps reads reads_lossily known which kept) small told_is puts
+    (which : Strictness) → keeps → (r : Result ℕ NoRoom) (returned : Result ℕ WriteError) (old new : List ℕ) → length bytes < 2 ^ 64 →
+    MatchResult r (λ len. returned ≡ Ok len) (λ fault. IsErrAnd returned (λ d. d ≡ write_error.NoRoom fault)) →
+    PutsAnswer bytes r old new → PutsText which (ReadsAs which reads reads_lossily) returned old new
+kept_put f bytes keeps reads reads_lossily known which kept r returned old new small returned_is puts =
+    text_put which (ReadsAs which reads reads_lossily) (chars bytes) bytes r returned old new
+    (only_kept f bytes keeps reads reads_lossily known which kept) small returned_is puts
 
 -- If the input was decoded to the end, a copy of the text to the slice keeps the promise.
-pub decoded_put : (f : Flavor) (which : Strictness) (bytes answer : List ℕ) (r : Result ℕ NoRoom) (told : Result ℕ Unwritten) (old new : List ℕ) →
+pub decoded_put : (f : Flavor) (which : Strictness) (bytes answer : List ℕ) (r : Result ℕ NoRoom) (returned : Result ℕ WriteError) (old new : List ℕ) →
     IsChunk f which bytes [] answer → length answer < 2 ^ 64 →
-    MatchResult r (λ len. told ≡ Ok len) (λ fault. IsErrAnd told (λ d. d ≡ unwritten.NoRoom fault)) →
-    PutsAnswer answer r old new → PutsText which (IsReadingOf f which bytes) told old new
-decoded_put f which bytes answer r told old new read small told_is puts =
-    text_put which (IsReadingOf f which bytes) (chars answer) answer r told old new (only_chunk f which bytes answer read) small told_is puts
+    MatchResult r (λ len. returned ≡ Ok len) (λ fault. IsErrAnd returned (λ d. d ≡ write_error.NoRoom fault)) →
+    PutsAnswer answer r old new → PutsText which (IsReadingOf f which bytes) returned old new
+decoded_put f which bytes answer r returned old new read small returned_is puts =
+    text_put which (IsReadingOf f which bytes) (chars answer) answer r returned old new (only_chunk f which bytes answer read) small returned_is puts
 
 -- If the length does not fit `usize`, the text fits no slice.
 pub length_lacks : (f : Flavor) (which : Strictness) (bytes buf : List ℕ) → (which ≡ Strict → IsStrictReading f bytes (reading f bytes)) →
-    length bytes < 2 ^ 64 → length buf < 2 ^ 64 → 2 ^ 64 ≤ lossy_length f bytes → PutsText which (IsReadingOf f which bytes) (Err unwritten.TooLong) buf buf
+    length bytes < 2 ^ 64 → length buf < 2 ^ 64 → 2 ^ 64 ≤ lossy_length f bytes → PutsText which (IsReadingOf f which bytes) (Err write_error.TooLong) buf buf
 unfolding lossy_length
 length_lacks f Strict bytes buf whole few small long = absurd (omega (arith, strict_no_longer f bytes (whole refl), few, long))
 length_lacks f Lossy bytes buf whole few small long =
@@ -139,12 +139,12 @@ length_lacks f Lossy bytes buf whole few small long =
     }
 
 -- What is promised for one set of texts is promised for an equal one.
-pub same_reading : (P Q : List ℕ → Type 0) → ((text : List ℕ) → Q text ↔ P text) → (which : Strictness) (r : Result ℕ Unwritten) (old new : List ℕ) →
+pub same_reading : (P Q : List ℕ → Type 0) → ((text : List ℕ) → Q text ↔ P text) → (which : Strictness) (r : Result ℕ WriteError) (old new : List ℕ) →
     PutsText which P r old new → PutsText which Q r old new
 same_reading P Q same which r old new puts = grind (arith, nat_tests)
 
 -- The error that `?` passes on keeps its promise.
-pub same_fault : (P Q : List ℕ → Type 0) → ((text : List ℕ) → Q text ↔ P text) → (which : Strictness) (fault : Unwritten) (r : Result ℕ Unwritten) (old new : List ℕ) →
+pub same_fault : (P Q : List ℕ → Type 0) → ((text : List ℕ) → Q text ↔ P text) → (which : Strictness) (fault : WriteError) (r : Result ℕ WriteError) (old new : List ℕ) →
     IsErr r × IsErrAnd r (λ other. other ≡ fault) → PutsText which P (Err fault) old new → PutsText which Q r old new
 same_fault P Q same which fault (Ok n) old new is puts = absurd is.1
 same_fault P Q same which fault (Err other) old new is puts = rw is.1 (same_reading P Q same which (Err fault) old new puts)

@@ -1,5 +1,5 @@
 -- The text that a vector holds.
-use Rattle.std.proofs.Common.{◌≡◌, ◌∙◌, sym, arith, ℕ, ◌+◌, List, [], ◌++◌, length, length-append, append-nil, Vec, vec_capacity, Result, Ok, IfOk}
+use Rattle.std.proofs.Common.{◌≡◌, ◌∙◌, sym, arith, ℕ, ◌+◌, List, [], ◌++◌, length, length-append, append-nil, Vec, vec_capacity, Ok}
 use Rattle.std.proofs.lemmas.Bool.Decides.{nat_tests}
 use Rattle.cesu8_text.specs.Encoding.{Flavor}
 use Rattle.cesu8_bytes.specs.TextChunks.{IsReadSoFar}
@@ -11,11 +11,6 @@ use Rattle.cesu8_text.proofs.reading.Steps.{reading_nil}
 use Rattle.cesu8_decode.specs.Decoding.{AppendsReading, BuildsReading}
 use Rattle.cesu8_decode.proofs.by_offset.IllFormed.{IsChunk}
 use Rattle.cesu8_decode.proofs.chunks.ReadChunks.{lossy_text_length, more_read}
-
--- A copy of the lossy reading is a built text.
-pub built : {Z E : Type 0} (f : Flavor) (bytes answer : List ℕ) (result : Result (Vec ℕ Z) E) → IsChunk f Lossy bytes [] answer →
-    IfOk result (λ copied. copied.items ≡ answer) → IfOk result (λ copied. vec_capacity copied ≡ length answer) → BuildsReading f bytes result
-built f bytes answer result is same long = grind arith
 
 -- If no character crosses the end of the first bytes, their lossy reading is that of all bytes up
 -- to there.
@@ -29,10 +24,10 @@ appended_length f bytes old new read = grind (arith, length-append, lossy_text_l
 
 -- If the text of the rest is appended to that of the first bytes, in a vector with capacity for
 -- both, the whole text is built.
-pub built_behind : {Z E X : Type 0} (f : Flavor) (bytes first rest : List ℕ) (before text : Vec ℕ Z) → first ++ rest ≡ bytes →
+pub built_after : {Z E X : Type 0} (f : Flavor) (bytes first rest : List ℕ) (before text : Vec ℕ Z) → first ++ rest ≡ bytes →
     NoneCrosses f first rest → IsChunk f Lossy first [] before.items → vec_capacity before ≡ length before.items + lossy_length f rest →
     AppendsReading {E = E} f Lossy rest before (Ok text) → BuildsReading {E = X} f bytes (Ok text)
-built_behind f bytes first rest before text whole apart read exact appends = record {
+built_after f bytes first rest before text whole apart read exact appends = record {
   text = more_read f Lossy bytes rest [] [] before.items text.items (read_apart f bytes first rest before.items whole apart read) appends.text;
   capacity = appends.capacity ∙ exact ∙ sym (appended_length f rest before.items text.items appends.text);
 }

@@ -31,9 +31,9 @@ both_parts bytes n boundary = (
 
 -- After a part that is UTF-8, the rest is UTF-8 exactly if all bytes are.
 pub after_utf8 : (bytes : List ℕ) (n : ℕ) → n ≤ length bytes → IsUtf8 (take n bytes) → IsUtf8 (drop n bytes) ↔ IsUtf8 bytes
-after_utf8 bytes n within front =
-    let same = both_parts bytes n (λ whole. IsCharBoundary-from_take bytes n whole within front) in
-    (λ rest. same.1 (front, rest), λ whole. (same.0 whole).1)
+after_utf8 bytes n within prefix =
+    let same = both_parts bytes n (λ whole. IsCharBoundary-from_take bytes n whole within prefix) in
+    (λ rest. same.1 (prefix, rest), λ whole. (same.0 whole).1)
 
 -- ---- the end of a part
 
@@ -53,13 +53,13 @@ no_four : (text : List ℕ) → IsText text → (i : ℕ) → ¬ (FourContinue (
 no_four [] is_text i four = omega (arith, (four i (omega arith) (omega arith)).0)
 no_four (c ∷ text) is_text i four =
     let n = length (utf8_of c) in
-    let behind = λ (k : ℕ) (low : i ≤ n + k) (high : n + k ≤ i + 3).
+    let in_text = λ (k : ℕ) (low : i ≤ n + k) (high : n + k ≤ i + 3).
     subst IsContinuation (get_or-append-add (utf8_of c) (utf8 text) k 0) (four (n + k) low high) in
     ⊎_elim (λ (within : i < n).
     ⊎_elim (λ (first : i ≡ 0). begins (c ∷ text) is_text (four 0 (omega (arith, first)) (omega arith)))
-    (λ (later : i ≡ 0 → ⊥). begins text is_text.1 (behind 0 (omega (arith, within)) (omega (arith, later, at_most_four c))))
+    (λ (later : i ≡ 0 → ⊥). begins text is_text.1 (in_text 0 (omega (arith, within)) (omega (arith, later, at_most_four c))))
     (cases_eq i 0))
-    (λ (past : n ≤ i). no_four text is_text.1 (i - n) (λ k low high. behind k (omega (arith, low, past)) (omega (arith, high, past))))
+    (λ (past : n ≤ i). no_four text is_text.1 (i - n) (λ k low high. in_text k (omega (arith, low, past)) (omega (arith, high, past))))
     (cases_lt i n)
 
 -- In UTF-8, the offset that is reached by going back over at most three continuation bytes is a

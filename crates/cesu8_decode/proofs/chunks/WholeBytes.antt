@@ -11,7 +11,7 @@ use Rattle.cesu8_text.proofs.encoding.Found.{BeginsInLengths, rest_is}
 use Rattle.cesu8_text.proofs.encoding.Lengths.{Change, same, longer, change}
 use Rattle.cesu8_text.proofs.reading.Decoding.{IsText_append}
 use Rattle.cesu8_decode.specs.Following.{CharacterSet, Encoded, Unchanged, has_changed}
-use Rattle.cesu8_decode.specs.Front.{AreWhole, IsOutside}
+use Rattle.cesu8_decode.specs.Prefixes.{AreWhole, IsOutside}
 
 -- ---- sets
 
@@ -41,8 +41,8 @@ character_whole s f c scalar inside = record {
 }
 
 -- If two parts are whole characters, so are both together.
-pub parts_whole : (s : CharacterSet) (f : Flavor) (front back : List ℕ) → AreWhole s f front → AreWhole s f back → AreWhole s f (front ++ back)
-parts_whole s f front back first last = record {
+pub parts_whole : (s : CharacterSet) (f : Flavor) (prefix back : List ℕ) → AreWhole s f prefix → AreWhole s f back → AreWhole s f (prefix ++ back)
+parts_whole s f prefix back first last = record {
   text = first.text ++ last.text;
   reads = (
     IsText_append first.text last.text first.reads.0 last.reads.0,

@@ -1,3 +1,5 @@
+-- `build_lossily` leaves no byte undecoded, so its `Vec` holds the UTF-8 of the lossy reading: it
+-- is UTF-8, and its characters and its length are those of that reading.
 use Rattle.std.proofs.Common.{[], ◌∙◌, ap, arith}
 use Rattle.std.specs.Str.{chars}
 use Rattle.cesu8_bytes.specs.declared.strictness.Strictness.TheVariants.{Lossy}

@@ -1,3 +1,5 @@
+-- `write_strictly` appends to an empty `Vec`, so the `Vec` holds the UTF-8 of the strict reading
+-- and nothing else.
 use Rattle.std.proofs.Common.{◌≡◌, [], sym, subst, refl, rules}
 use Rattle.std.specs.Str.{chars}
 use Rattle.cesu8_text.specs.Reading.{IsStrictReading}

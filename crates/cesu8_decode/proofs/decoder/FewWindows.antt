@@ -9,7 +9,7 @@ use Rattle.cesu8_text.specs.Encoding.{Flavor, Mutf8}
 use Rattle.cesu8_bytes.specs.Pairs.{null_at}
 use Rattle.cesu8_bytes.proofs.vectors.Loads.{padded, zeros_at}
 use Rattle.cesu8_decode.specs.DecodedOffsets.{width_at, window_of, is_ill_formed_at, pair_at}
-use Rattle.cesu8_decode.specs.Front.{AreChanges, is_changed_at}
+use Rattle.cesu8_decode.specs.Prefixes.{AreChanges, is_changed_at}
 use Rattle.cesu8_decode.specs.Masks.{HasBits, IsWindow, is_pair_at, is_null_at}
 use Rattle.cesu8_decode.specs.declared.lanes.windows.Window.{Window}
 use Rattle.cesu8_decode.proofs.by_offset.WindowOffsets.{width_agrees, ill_formed_agrees, boundary_agrees}

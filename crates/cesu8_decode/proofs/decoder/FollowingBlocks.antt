@@ -14,7 +14,7 @@ use lib.Lanes.{zip2, sel_l, mask_l, top, chunk}
 use Rattle.cesu8_text.specs.Class.{is_null}
 use Rattle.cesu8_text.specs.Encoding.{Flavor}
 use Rattle.cesu8_bytes.specs.Kernels.{mask}
-use Rattle.cesu8_decode.specs.Following.{CharacterSet, Encoded, Unchanged, IsBlockAt, shown, wanted, follows, follows_at, after_fillers, AllFollow, FirstFollow, FollowUpTo}
+use Rattle.cesu8_decode.specs.Following.{CharacterSet, Encoded, Unchanged, IsBlockAt, pair_class, required_class, follows, follows_at, after_fillers, AllFollow, FirstFollow, FollowUpTo}
 use Rattle.cesu8_decode.specs.declared.lanes.character_set.Block.{Block}
 use Rattle.cesu8_bytes.proofs.lists.Lanes.{ones}
 use Rattle.cesu8_bytes.proofs.vectors.Loads.{loaded}
@@ -47,7 +47,7 @@ low_lane f b low = grind (arith, nat_tests, or_parts, high_or, leb-false, of_mas
 -- ASCII that is no null can follow four bytes of ASCII.
 ascii_fits : (s : CharacterSet) (f : Flavor) (a b d e g : ℕ) → a < 0x80 → b < 0x80 → d < 0x80 → e < 0x80 → g < 0x80 → is_null f g ≡ false →
     follows s f a b d e g ≡ true
-unfolding shown
+unfolding pair_class
 ascii_fits s f a b d e g a_low b_low d_low e_low g_low no_null = grind (arith, nat_tests)
 
 -- The lanes of a mask are marked exactly if the test passes.
@@ -74,17 +74,17 @@ second_alike g alike (x ∷ xs) (y ∷ ys) (v ∷ vs) long = (λ i. alike x y v 
 -- The class that a block's bytes are required to have does not depend on earlier bytes that the set
 -- does not need.
 wanted_by_needed : (s : CharacterSet) (window : List ℕ) (at : ℕ) (block : Block) → IsBlockAt s window at block → length block.four_before ≡ 32 → length block.three_before ≡ 32 →
-    zip2 (wanted s) block.four_before block.three_before ≡ zip2 (wanted s) (chunk at 32 window) (chunk (at + 1) 32 window)
+    zip2 (required_class s) block.four_before block.three_before ≡ zip2 (required_class s) (chunk at 32 window) (chunk (at + 1) 32 window)
 wanted_by_needed Encoded window at block is long_four long_three = rw (is.four_before refl, is.three_before refl) refl
 wanted_by_needed Unchanged window at block is long_four long_three =
-    first_alike (wanted Unchanged) (λ a c b. refl) block.four_before (chunk at 32 window) block.three_before (long_four ∙ sym (length-chunk at 32 window (omega (arith, is.room))))
-    ∙ second_alike (wanted Unchanged) (λ a b d. refl) (chunk at 32 window) block.three_before (chunk (at + 1) 32 window)
+    first_alike (required_class Unchanged) (λ a c b. refl) block.four_before (chunk at 32 window) block.three_before (long_four ∙ sym (length-chunk at 32 window (omega (arith, is.room))))
+    ∙ second_alike (required_class Unchanged) (λ a b d. refl) (chunk at 32 window) block.three_before (chunk (at + 1) 32 window)
     (long_three ∙ sym (length-chunk (at + 1) 32 window (omega (arith, is.room))))
 
 -- The vectors of a block give the error mask: the bytes that cannot follow the bytes before them.
 pub misplaced_are : (s : CharacterSet) (f : Flavor) (window : List ℕ) (at : ℕ) (block : Block) → IsBlockAt s window at block →
-    length block.four_before ≡ 32 → length block.three_before ≡ 32 → (here want : List ℕ) → here ≡ zip2 (shown s f) block.one_before block.bytes →
-    want ≡ zip2 (λ want d. want d) (zip2 (wanted s) block.four_before block.three_before) block.two_before →
+    length block.four_before ≡ 32 → length block.three_before ≡ 32 → (here want : List ℕ) → here ≡ zip2 (pair_class s f) block.one_before block.bytes →
+    want ≡ zip2 (λ want d. want d) (zip2 (required_class s) block.four_before block.three_before) block.two_before →
     sel_l (map (top 7) (zip2 (λ a b. ones (eqb a b)) here want)) (replicate 32 0) (replicate 32 0xFF)
     ≡ map (λ i. mask (not (follows_at s f window i))) (range_with_len at 32)
 misplaced_are s f window at block is long_four long_three here want here_is by_bytes =

@@ -5,10 +5,10 @@ use lib.Lanes.{zip2, sel_l, top, Each1}
 use Rattle.cesu8_text.specs.Class.{is_null}
 use Rattle.cesu8_text.specs.Encoding.{Flavor, Cesu8, Mutf8}
 use Rattle.cesu8_bytes.specs.Kernels.{mask}
-use Rattle.cesu8_decode.specs.Following.{told}
+use Rattle.cesu8_decode.specs.Following.{table_bits}
 use Rattle.cesu8_decode.proofs.decoder.LookUps.{half, half_tests, told_alike, and_false}
 use Rattle.cesu8_decode.proofs.decoder.FirstLanes.{on_range, lanes_are, lane_fits}
-use Rattle.cesu8_decode.specs.Following.{CharacterSet, Encoded, Unchanged, has_changed, first_low, rule, shown, later}
+use Rattle.cesu8_decode.specs.Following.{CharacterSet, Encoded, Unchanged, has_changed, first_low, rule, pair_class, later}
 use Rattle.cesu8_decode.specs.declared.lanes.character_set.Rule.{Rule}
 use Rattle.cesu8_decode.specs.declared.lanes.character_set.TheConstants.{ENCODED, UNCHANGED}
 use Rattle.cesu8_bytes.proofs.lists.Lanes.{ones}
@@ -17,22 +17,22 @@ use Rattle.cesu8_bytes.proofs.lists.Lanes.{ones}
 
 -- The bits that three table entries of a set have in common.
 abbrev pub told_by : Rule → ℕ → ℕ → ℕ
-told_by t = told t.by_high t.by_low t.by_next
+told_by t = table_bits t.by_high t.by_low t.by_next
 
 low_half : (s : CharacterSet) (b : ℕ) → leb (first_low s) (half b) ≡ leb (first_low s) b
 low_half Encoded b = (half_tests b 0xB).0
 low_half Unchanged b = (half_tests b 0xA).0
 
-by_half : (s : CharacterSet) (a b : ℕ) → shown s Cesu8 a (half b) ≡ shown s Cesu8 a b
-unfolding shown
+by_half : (s : CharacterSet) (a b : ℕ) → pair_class s Cesu8 a (half b) ≡ pair_class s Cesu8 a b
+unfolding pair_class
 by_half s a b =
     let test = half_tests b in
     rw ((test 8).0, low_half s b, (test 0xA).1, (test 0xC).1) refl
 
-told_is : (s : CharacterSet) (a b : ℕ) → a < 0x100 → b < 0x100 → told_by (rule s) a b ≡ shown s Cesu8 a b
-unfolding shown
-told_is Encoded = told_alike ENCODED.by_high ENCODED.by_low ENCODED.by_next (shown Encoded Cesu8) refl (by_half Encoded)
-told_is Unchanged = told_alike UNCHANGED.by_high UNCHANGED.by_low UNCHANGED.by_next (shown Unchanged Cesu8) refl (by_half Unchanged)
+told_is : (s : CharacterSet) (a b : ℕ) → a < 0x100 → b < 0x100 → told_by (rule s) a b ≡ pair_class s Cesu8 a b
+unfolding pair_class
+told_is Encoded = told_alike ENCODED.by_high ENCODED.by_low ENCODED.by_next (pair_class Encoded Cesu8) refl (by_half Encoded)
+told_is Unchanged = told_alike UNCHANGED.by_high UNCHANGED.by_low UNCHANGED.by_next (pair_class Unchanged Cesu8) refl (by_half Unchanged)
 
 -- The class bits that are kept in MUTF-8: all but 10 for a second byte 80, if the set has C0 80.
 abbrev kept_of : CharacterSet → ℕ → ℕ
@@ -47,15 +47,15 @@ or_cond t x y m = grind arith
 -- After each first byte, the second bytes 00 and 80 have the right class in MUTF-8.
 null_agrees : CharacterSet → ℕ → Bool
 null_agrees s a =
-    eqb (in_mutf8 s (shown s Cesu8 a 0) 0) (shown s Mutf8 a 0) && eqb (in_mutf8 s (shown s Cesu8 a 0x80) 0x80) (shown s Mutf8 a 0x80)
+    eqb (in_mutf8 s (pair_class s Cesu8 a 0) 0) (pair_class s Mutf8 a 0) && eqb (in_mutf8 s (pair_class s Cesu8 a 0x80) 0x80) (pair_class s Mutf8 a 0x80)
 
 nulls_agree : (s : CharacterSet) (a : ℕ) → a < 0x100 → null_agrees s a ≡ true
-unfolding shown null_agrees
+unfolding pair_class null_agrees
 nulls_agree Encoded a h = agree_below_at (null_agrees Encoded) (λ _. true) 0x100 a refl h
 nulls_agree Unchanged a h = agree_below_at (null_agrees Unchanged) (λ _. true) 0x100 a refl h
 
-mutf8_is : (s : CharacterSet) (a b : ℕ) → a < 0x100 → in_mutf8 s (shown s Cesu8 a b) b ≡ shown s Mutf8 a b
-unfolding shown null_agrees
+mutf8_is : (s : CharacterSet) (a b : ℕ) → a < 0x100 → in_mutf8 s (pair_class s Cesu8 a b) b ≡ pair_class s Mutf8 a b
+unfolding pair_class null_agrees
 mutf8_is s a b ha =
     let agree = and_parts _ _ (nulls_agree s a ha) in
     ⊎_elim (λ (null : b ≡ 0). rw null (eqb-true _ _ agree.0))
@@ -67,12 +67,12 @@ mutf8_is s a b ha =
 
 -- In CESU-8 the look-ups give the class of each pair of bytes.
 pub cesu8_lanes : (s : CharacterSet) (first second : List ℕ) → length first ≡ 32 → length second ≡ 32 → Each1 (Fits w8) first → Each1 (Fits w8) second →
-    zip2 (told_by (rule s)) first second ≡ zip2 (shown s Cesu8) first second
+    zip2 (told_by (rule s)) first second ≡ zip2 (pair_class s Cesu8) first second
 cesu8_lanes s first second long long_second fits_first fits_second =
     let a = λ (i : ℕ). get_or first i 0 in
     let b = λ (i : ℕ). get_or second i 0 in
     rw (lanes_are first long, lanes_are second long_second)
-    (on_range (λ i. told_by (rule s) (a i) (b i)) (λ i. shown s Cesu8 (a i) (b i)) 0 32
+    (on_range (λ i. told_by (rule s) (a i) (b i)) (λ i. pair_class s Cesu8 (a i) (b i)) 0 32
     (λ i low inside. told_is s (a i) (b i) (lane_fits first long fits_first i inside) (lane_fits second long_second fits_second i inside)))
 
 -- An encoding that is not MUTF-8 is CESU-8.
@@ -82,12 +82,12 @@ cesu8_unless f other = grind arith
 -- In MUTF-8 the look-ups give the class, corrected for second bytes 00 and 80.
 pub mutf8_lanes : (s : CharacterSet) (first second kept nulls : List ℕ) → length first ≡ 32 → length second ≡ 32 →
     Each1 (Fits w8) first → Each1 (Fits w8) second → kept ≡ map (kept_of s) second → nulls ≡ map (λ b. mask (is_null Mutf8 b)) second →
-    zip2 bit_or (zip2 bit_and (zip2 (told_by (rule s)) first second) kept) nulls ≡ zip2 (shown s Mutf8) first second
+    zip2 bit_or (zip2 bit_and (zip2 (told_by (rule s)) first second) kept) nulls ≡ zip2 (pair_class s Mutf8) first second
 mutf8_lanes s first second kept nulls long long_second fits_first fits_second kept_are nulls_are =
     let a = λ (i : ℕ). get_or first i 0 in
     let b = λ (i : ℕ). get_or second i 0 in
     rw (cesu8_lanes s first second long long_second fits_first fits_second, kept_are, nulls_are, lanes_are first long, lanes_are second long_second)
-    (on_range (λ i. in_mutf8 s (shown s Cesu8 (a i) (b i)) (b i)) (λ i. shown s Mutf8 (a i) (b i)) 0 32
+    (on_range (λ i. in_mutf8 s (pair_class s Cesu8 (a i) (b i)) (b i)) (λ i. pair_class s Mutf8 (a i) (b i)) 0 32
     (λ i low inside. mutf8_is s (a i) (b i) (lane_fits first long fits_first i inside)))
 
 -- If the set has no characters that need conversion, all class bits are kept.

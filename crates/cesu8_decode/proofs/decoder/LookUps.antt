@@ -10,7 +10,7 @@ use Rattle.std.proofs.lemmas.List.{length-map, get_or-map, get_or_append_left}
 use Rattle.std.proofs.lemmas.Nat.{and_mask}
 use Rattle.std.proofs.lemmas.Simd.{SwzOk, swz_l, SwzOk-from_below, length-swz_l, get_or-swz_l_below, length-zip2, get_or-zip2, get_or-replicate, Each1-from_get_or}
 use lib.Lanes.{zip2, pick_l}
-use Rattle.cesu8_decode.specs.Following.{told}
+use Rattle.cesu8_decode.specs.Following.{table_bits}
 use Rattle.cesu8_decode.proofs.decoder.FirstLanes.{lanes_are}
 
 -- ---- tests of bytes
@@ -25,17 +25,17 @@ half b = b / 0x10 * 0x10
 -- Tables agree with a function of two bytes if they agree for each first byte and each upper half
 -- of the second, and the function does not depend on the second byte's lower half.
 abbrev tells_at : (high low next : List ℕ) → (ℕ → ℕ → ℕ) → ℕ → Bool
-tells_at high low next tells i = eqb (told high low next (i / 0x10) (i % 0x10 * 0x10)) (tells (i / 0x10) (i % 0x10 * 0x10))
+tells_at high low next tells i = eqb (table_bits high low next (i / 0x10) (i % 0x10 * 0x10)) (tells (i / 0x10) (i % 0x10 * 0x10))
 
 pub told_alike : (high low next : List ℕ) (tells : ℕ → ℕ → ℕ) → agree_below (tells_at high low next tells) (λ _. true) 0x1000 ≡ true →
-    ((a b : ℕ) → tells a (half b) ≡ tells a b) → (a b : ℕ) → a < 0x100 → b < 0x100 → told high low next a b ≡ tells a b
+    ((a b : ℕ) → tells a (half b) ≡ tells a b) → (a b : ℕ) → a < 0x100 → b < 0x100 → table_bits high low next a b ≡ tells a b
 told_alike high low next tells agree by_half a b ha hb =
     let n = b / 0x10 in
     let i = a * 0x10 + n in
     let e0 : i / 0x10 ≡ a = omega arith in
     let e1 : i % 0x10 ≡ n = omega arith in
     let e2 : n * 0x10 / 0x10 % 0x10 ≡ b / 0x10 % 0x10 = omega arith in
-    let at_half : told high low next a (half b) ≡ tells a (half b) =
+    let at_half : table_bits high low next a (half b) ≡ tells a (half b) =
     eqb-true _ _ (rw (e0, e1) at (agree_below_at (tells_at high low next tells) (λ _. true) 0x1000 i agree (omega arith))) in
     rw e2 at at_half ∙ by_half a b
 
@@ -100,5 +100,5 @@ shr a b = a / 2 ^ b
 pub told_are : (by_high by_low by_next first second : List ℕ) → length first ≡ 32 → length second ≡ 32 →
     zip2 bit_and (zip2 bit_and (map (λ lane. get_or by_high (lane % 16) 0) (zip2 shr first (replicate 32 4)))
     (map (λ lane. get_or by_low (lane % 16) 0) first)) (map (λ lane. get_or by_next (lane % 16) 0) (zip2 shr second (replicate 32 4)))
-    ≡ zip2 (told by_high by_low by_next) first second
+    ≡ zip2 (table_bits by_high by_low by_next) first second
 told_are by_high by_low by_next first second long long_second = rw (lanes_are first long, lanes_are second long_second) refl

@@ -10,15 +10,14 @@ use Rattle.cesu8_bytes.specs.declared.strictness.Strictness.TheVariants.{Strict,
 use Rattle.cesu8_decode.specs.Decoding.{IsDecoded, WritesDecoded, WritesReading, WritesText, IsPass, GoesOn, most_written}
 use Rattle.cesu8_decode.specs.DecodedOffsets.{window_of, decoded, is_boundary_at}
 use Rattle.cesu8_decode.specs.Following.{Unchanged}
-use Rattle.cesu8_decode.specs.Front.{IsFront}
+use Rattle.cesu8_decode.specs.Prefixes.{IsLongestPrefix}
 use Rattle.cesu8_decode.specs.Masks.{IsWindow}
 use Rattle.cesu8_decode.specs.declared.lanes.windows.Window.{Window}
 use Rattle.cesu8_decode.specs.declared.pass.windows.Pass.{Pass}
 use Rattle.cesu8_decode.proofs.by_offset.WindowOffsets.{Agree}
 use Rattle.cesu8_decode.proofs.by_offset.CharacterBoundaries.{boundary_of_zeros}
-use Rattle.cesu8_decode.proofs.chunks.DecodedUnchanged.{text_fine, boundary_after_text, text_decoded}
-use Rattle.cesu8_decode.proofs.chunks.UnchangedFronts.{in_utf8}
-use Rattle.cesu8_decode.proofs.chunks.DecodedPairs.{pair_fine, boundary_after_pair, pair_at_boundary}
+use Rattle.cesu8_decode.proofs.chunks.DecodedCharacters.{text_fine, boundary_after_text, text_decoded, pair_fine, boundary_after_pair, pair_decoded}
+use Rattle.cesu8_decode.proofs.chunks.UnchangedPrefixes.{in_utf8}
 use Rattle.cesu8_decode.proofs.decoder.BlocksInPlace.{more_decoded, decoded_in, most_of_more, all_decoded, refused_decoded, windows_alike, writes_decoded}
 use Rattle.cesu8_decode.proofs.decoder.WindowEnds.{none_in_window}
 
@@ -149,16 +148,16 @@ pair_goes_on f which bytes read end new_end is long has four old new is_utf8 siz
     record {
       pass = λ _. record {
         within = inside;
-        boundary = boundary_after_pair f bytes read has long;
+        boundary = boundary_after_pair f bytes read is.within is.boundary has long;
       };
       within = (omega arith, inside);
       text = λ start text so_far.
           more_decoded f which (window_of bytes) start _ _ read 6 false so_far
           (behind_text f which (window_of bytes) text _ _ read 6 false (record {
-            bytes = λ _. put.writes.bytes ∙ ap (λ bs. take end old ++ bs) (sym (pair_at_boundary f bytes read has long is.boundary four is_utf8));
+            bytes = λ _. put.writes.bytes ∙ ap (λ bs. take end old ++ bs) (sym (pair_decoded f bytes read is.within is.boundary has long four is_utf8));
             refused = λ never. absurd (true≢false (sym never));
             lossy = λ _. refl;
-            strict = λ _ _ i from to. pair_fine f bytes read has long i from to;
+            strict = λ _ _ i from to. pair_fine f bytes read is.within is.boundary has long i from to;
           }));
       end = omega (arith, put.writes.end, size, most_of_pair which read);
       inside = fits;
@@ -173,7 +172,7 @@ most_of_bytes Lossy n m = omega arith
 
 -- The unchanged prefix of what comes next is copied.
 pub front_goes_on : (f : Flavor) (which : Strictness) (bytes part : List ℕ) (k read end len new_end : ℕ) → IsPass f bytes read → part ≡ take k (drop read bytes) →
-    IsFront Unchanged f part len → (old new : List ℕ) → PutsAt (take len part) end old new new_end → new_end ≤ length new →
+    IsLongestPrefix Unchanged f part len → (old new : List ℕ) → PutsAt (take len part) end old new new_end → new_end ≤ length new →
     GoesOn f which bytes (pass_at read end) (pass_at (read + len) new_end) old new
 front_goes_on f which bytes part k read end len new_end is part_is front old new put fits = record {
   pass = λ _. record { within = inside; boundary = subst (λ m. is_boundary_at f (window_of bytes) (read + m) ≡ true) long (boundary_after_text f bytes read is.within is.boundary text more is_text rest_is) };

@@ -11,12 +11,11 @@ ghost use Rattle.cesu8_text.specs.Reading.{reading};
 ghost use Rattle.cesu8_bytes.specs.declared.strictness.Strictness.TheVariants.{Strict, Lossy};
 ghost use Rattle.cesu8_decode.specs.Decoding.{room_for, room_for_few};
 ghost use Rattle.cesu8_decode.specs.Following.{Unchanged as AllUnchanged};
-ghost use Rattle.cesu8_decode.specs.Front.{IsFront, IsPartialFront};
+ghost use Rattle.cesu8_decode.specs.Prefixes.{IsLongestPrefix, IsProperPrefix};
 ghost use Rattle.cesu8_decode.specs.PutReadings.{PutsReading};
 
 use super::chunks::put_chunks;
-use crate::front::few::front_of_few;
-use crate::front::{FoundFront, may_be_crossed};
+use crate::error::WriteError;
 use crate::lanes::character_set::Unchanged;
 use crate::lengths::lossy_len;
 use crate::needs_conversion::begins_changed;
@@ -24,7 +23,8 @@ use crate::pass::few::{FEW_LOSSY, FEW_STRICT, write_few};
 use crate::pass::windows::{
     LARGE_LOSSY, LARGE_STRICT, LARGEST_LOSSY, SMALL_LOSSY, SMALL_STRICT, write_all,
 };
-use crate::refusal::Unwritten;
+use crate::prefix::window::prefix_by_window;
+use crate::prefix::{UnchangedPrefix, may_be_crossed};
 use crate::strategy::{FEW_BYTES, Strategy, are_few, strategy_of};
 use crate::valid::is_ill_formed;
 use cesu8_bytes::flavor::Flavor;
@@ -37,43 +37,47 @@ use cesu8_bytes::writing::copies::{NoRoom, copy_to_slice};
 #[inline(always)]
 pub fn put_strictly<F: Flavor>(
     bytes: &[u8],
-    front: FoundFront,
+    prefix: UnchangedPrefix,
     buf: &mut [u8],
-) -> Result<usize, Unwritten>
-    requires { IsPartialFront F.flavor bytes.now front }
+) -> Result<usize, WriteError>
+    requires { IsProperPrefix F.flavor bytes.now prefix }
     ensures { PutsReading F.flavor Strict bytes.now result buf.old buf.new }
 {
     if are_few(bytes) {
-        if front.changed == 0 {
-            return Err(Unwritten::NoText);
+        if prefix.changed == 0 {
+            return Err(WriteError::NoText);
         }
-        return put_few::<F, StrictReading, FEW_STRICT>(bytes, front, buf);
+        return put_few::<F, StrictReading, FEW_STRICT>(bytes, prefix, buf);
     }
-    put_changed::<F>(bytes, front.len, buf)
+    put_after_prefix::<F>(bytes, prefix.len, buf)
 }
 
-/// Writes the strictly decoded text of more than 64 bytes, of which the first `front` are
+/// Writes the strictly decoded text of more than 64 bytes, of which the first `prefix` are
 /// unchanged. It is not inlined, so that shorter input has few registers to save.
 #[inline(never)]
-fn put_changed<F: Flavor>(bytes: &[u8], front: usize, buf: &mut [u8]) -> Result<usize, Unwritten>
-    requires front { IsFront AllUnchanged F.flavor bytes.now front × (front < length bytes.now) }
+fn put_after_prefix<F: Flavor>(
+    bytes: &[u8],
+    prefix: usize,
+    buf: &mut [u8],
+) -> Result<usize, WriteError>
+    requires prefix { IsLongestPrefix AllUnchanged F.flavor bytes.now prefix × (prefix < length bytes.now) }
     ensures { PutsReading F.flavor Strict bytes.now result buf.old buf.new }
 {
-    let rest = &bytes[front..];
+    let rest = &bytes[prefix..];
     if !begins_changed::<F>(rest) {
-        return Err(Unwritten::NoText);
+        return Err(WriteError::NoText);
     }
-    let start = front.min(buf.len());
-    match put_strictly_whole::<F>(rest, &mut buf[start..]) {
+    let start = prefix.min(buf.len());
+    match put_by_strategy::<F>(rest, &mut buf[start..]) {
         Ok(len) => {
-            copy_short(&bytes[..front], buf);
-            Ok(front + len)
+            copy_short(&bytes[..prefix], buf);
+            Ok(prefix + len)
         }
-        Err(Unwritten::NoRoom(no_room)) => Err(Unwritten::NoRoom(NoRoom {
-            needed: front + no_room.needed,
+        Err(WriteError::NoRoom(no_room)) => Err(WriteError::NoRoom(NoRoom {
+            needed: prefix + no_room.needed,
         })),
-        Err(Unwritten::NoText) => Err(Unwritten::NoText),
-        Err(Unwritten::TooLong) => Err(Unwritten::TooLong),
+        Err(WriteError::NoText) => Err(WriteError::NoText),
+        Err(WriteError::TooLong) => Err(WriteError::TooLong),
     }
 }
 
@@ -83,14 +87,14 @@ fn put_changed<F: Flavor>(bytes: &[u8], front: usize, buf: &mut [u8]) -> Result<
 #[inline(never)]
 pub fn put_lossily<F: Flavor>(
     bytes: &[u8],
-    front: FoundFront,
+    prefix: UnchangedPrefix,
     buf: &mut [u8],
-) -> Result<usize, Unwritten>
-    requires { IsPartialFront F.flavor bytes.now front }
+) -> Result<usize, WriteError>
+    requires { IsProperPrefix F.flavor bytes.now prefix }
     ensures { PutsReading F.flavor Lossy bytes.now result buf.old buf.new }
 {
     match strategy_of(bytes) {
-        Strategy::Few => put_few::<F, LossyReading, FEW_LOSSY>(bytes, front, buf),
+        Strategy::Few => put_few::<F, LossyReading, FEW_LOSSY>(bytes, prefix, buf),
         Strategy::SmallArray => put_by_array::<F, LossyReading, SMALL_LOSSY>(bytes, buf),
         Strategy::LargeArray => put_by_array::<F, LossyReading, LARGE_LOSSY>(bytes, buf),
         Strategy::LargestArray => put_by_array::<F, LossyReading, LARGEST_LOSSY>(bytes, buf),
@@ -100,50 +104,43 @@ pub fn put_lossily<F: Flavor>(
 
 /// Writes the strictly decoded text, which is no longer than the input.
 #[inline(always)]
-fn put_strictly_whole<F: Flavor>(bytes: &[u8], buf: &mut [u8]) -> Result<usize, Unwritten>
+fn put_by_strategy<F: Flavor>(bytes: &[u8], buf: &mut [u8]) -> Result<usize, WriteError>
     ensures { PutsReading F.flavor Strict bytes.now result buf.old buf.new }
 {
     match strategy_of(bytes) {
-        Strategy::Few => put_rest::<F>(bytes, buf),
+        Strategy::Few => {
+            let prefix = prefix_by_window::<F>(bytes);
+            if prefix.len == bytes.len() {
+                return copy_to_slice(bytes, buf).map_err(WriteError::NoRoom);
+            }
+            put_few::<F, StrictReading, FEW_STRICT>(bytes, prefix, buf)
+        }
         // Input that ends within a character is rejected before all of it is decoded.
-        _ if may_be_crossed::<Unchanged>(bytes, bytes.len()) => Err(Unwritten::NoText),
+        _ if may_be_crossed::<Unchanged>(bytes, bytes.len()) => Err(WriteError::NoText),
         Strategy::SmallArray => put_by_array::<F, StrictReading, SMALL_STRICT>(bytes, buf),
         Strategy::LargeArray => put_by_array::<F, StrictReading, LARGE_STRICT>(bytes, buf),
         Strategy::LargestArray | Strategy::Chunks => put_many::<F, StrictReading>(bytes, buf),
     }
 }
 
-/// Writes the strictly decoded text of the last bytes, at most 64.
-#[inline(always)]
-fn put_rest<F: Flavor>(bytes: &[u8], buf: &mut [u8]) -> Result<usize, Unwritten>
-    requires { length bytes.now ≤ FEW_BYTES }
-    ensures { PutsReading F.flavor Strict bytes.now result buf.old buf.new }
-{
-    let front = front_of_few::<F>(bytes);
-    if front.len == bytes.len() {
-        return copy_to_slice(bytes, buf).map_err(Unwritten::NoRoom);
-    }
-    put_few::<F, StrictReading, FEW_STRICT>(bytes, front, buf)
-}
-
-/// Writes the decoded text of at most 64 bytes to an array, and copies it from there. `front` is
+/// Writes the decoded text of at most 64 bytes to an array, and copies it from there. `prefix` is
 /// their unchanged prefix, which is not all of them.
 #[inline(always)]
 fn put_few<F: Flavor, S: Reading, const WRITTEN: usize>(
     bytes: &[u8],
-    front: FoundFront,
+    prefix: UnchangedPrefix,
     buf: &mut [u8],
-) -> Result<usize, Unwritten>
+) -> Result<usize, WriteError>
     requires few { length bytes.now ≤ FEW_BYTES }
-    requires front { IsPartialFront F.flavor bytes.now front }
+    requires prefix { IsProperPrefix F.flavor bytes.now prefix }
     requires room { (room_for_few S.which ≤ WRITTEN) × (WRITTEN ≤ FEW_LOSSY) }
     ensures { PutsReading F.flavor S.which bytes.now result buf.old buf.new }
 {
     let mut written = [0; WRITTEN];
-    let Ok(end) = write_few::<F, S>(bytes, front, &mut written) else {
-        return Err(Unwritten::NoText);
+    let Ok(end) = write_few::<F, S>(bytes, prefix, &mut written) else {
+        return Err(WriteError::NoText);
     };
-    copy_to_slice(&written[..end], buf).map_err(Unwritten::NoRoom)
+    copy_to_slice(&written[..end], buf).map_err(WriteError::NoRoom)
 }
 
 /// Writes the decoded text to an array that is long enough for it, and copies it from there. It is
@@ -152,15 +149,15 @@ fn put_few<F: Flavor, S: Reading, const WRITTEN: usize>(
 fn put_by_array<F: Flavor, S: Reading, const WRITTEN: usize>(
     bytes: &[u8],
     buf: &mut [u8],
-) -> Result<usize, Unwritten>
+) -> Result<usize, WriteError>
     requires { (room_for S.which (length bytes.now) ≤ WRITTEN) × (WRITTEN ≤ LARGEST_LOSSY) }
     ensures { PutsReading F.flavor S.which bytes.now result buf.old buf.new }
 {
     let mut written = [0; WRITTEN];
     let Ok(end) = write_all::<F, S>(bytes, &mut written) else {
-        return Err(Unwritten::NoText);
+        return Err(WriteError::NoText);
     };
-    copy_to_slice(&written[..end], buf).map_err(Unwritten::NoRoom)
+    copy_to_slice(&written[..end], buf).map_err(WriteError::NoRoom)
 }
 
 /// Writes the decoded text of more bytes by `put_chunks`. In strict decoding it first validates the
@@ -168,12 +165,12 @@ fn put_by_array<F: Flavor, S: Reading, const WRITTEN: usize>(
 /// counts the length, unless the bytes are valid and the slice is at least as long as the input. It
 /// is not inlined, so that shorter input has few registers to save.
 #[inline(never)]
-fn put_many<F: Flavor, S: Reading>(bytes: &[u8], buf: &mut [u8]) -> Result<usize, Unwritten>
+fn put_many<F: Flavor, S: Reading>(bytes: &[u8], buf: &mut [u8]) -> Result<usize, WriteError>
     ensures { PutsReading F.flavor S.which bytes.now result buf.old buf.new }
 {
     if let Strictness::Strict = S::strictness() {
         if is_ill_formed::<F>(bytes) {
-            return Err(Unwritten::NoText);
+            return Err(WriteError::NoText);
         }
         if bytes.len() <= buf.len() {
             return Ok(put_chunks::<F>(bytes, buf));
@@ -181,7 +178,7 @@ fn put_many<F: Flavor, S: Reading>(bytes: &[u8], buf: &mut [u8]) -> Result<usize
     }
     match lossy_len::<F>(bytes) {
         Some(len) if len <= buf.len() => Ok(put_chunks::<F>(bytes, buf)),
-        Some(len) => Err(Unwritten::NoRoom(NoRoom { needed: len })),
-        None => Err(Unwritten::TooLong),
+        Some(len) => Err(WriteError::NoRoom(NoRoom { needed: len })),
+        None => Err(WriteError::TooLong),
     }
 }

@@ -11,14 +11,14 @@ ghost use Rattle.cesu8_bytes.specs.TextChunks.{IsReadSoFar};
 ghost use Rattle.cesu8_bytes.specs.declared.strictness.Strictness.TheVariants.{Strict};
 ghost use Rattle.cesu8_decode.specs.Decoding.{AppendsReading};
 ghost use Rattle.cesu8_decode.specs.Following.{Unchanged as AllUnchanged};
-ghost use Rattle.cesu8_decode.specs.Front.{IsFront, IsPartialFront};
+ghost use Rattle.cesu8_decode.specs.Prefixes.{IsLongestPrefix, IsProperPrefix};
 
 use super::chunks::append_chunks;
-use crate::front::few::front_of_few;
-use crate::front::{FoundFront, front_of_many, may_be_crossed};
 use crate::lanes::character_set::Unchanged;
-use crate::needs_conversion::{changes, prefix_of};
+use crate::needs_conversion::{changes, first_eight};
 use crate::pass::few::{FEW_STRICT, write_few};
+use crate::prefix::window::prefix_by_window;
+use crate::prefix::{UnchangedPrefix, longest_prefix, may_be_crossed};
 use crate::strategy::{FEW_BYTES, are_few};
 use cesu8_bytes::flavor::Flavor;
 use cesu8_bytes::pairs::{PAIR, PAIR_READ, utf8_of_pair};
@@ -27,11 +27,11 @@ use cesu8_bytes::writing::copies::{append, append_few, append_front};
 
 /// If the first unchanged run is shorter than this, the rest is decoded window by window, unless at
 /// most 64 bytes are left: windows are then faster.
-const FRONT: usize = 16;
+const FIRST_RUN: usize = 16;
 
 /// If a later unchanged run is shorter than this, the rest is decoded window by window: windows are
 /// faster if converted characters are close together.
-const LONG_FRONT: usize = 64;
+const NEXT_RUN: usize = 64;
 
 /// Appends the strictly decoded text of more than 64 bytes, of which the first `len` are unchanged.
 /// It goes from one converted character to the next as long as these are far apart, and decodes the
@@ -39,19 +39,19 @@ const LONG_FRONT: usize = 64;
 #[inline(never)]
 pub fn append_many<F: Flavor>(bytes: &[u8], len: usize, before: Vec<u8>) -> Result<Vec<u8>, NoText>
     requires many { FEW_BYTES < length bytes.now }
-    requires front { IsFront AllUnchanged F.flavor bytes.now len }
+    requires prefix { IsLongestPrefix AllUnchanged F.flavor bytes.now len }
     requires room { vec_len before + length bytes.now ≤ vec_capacity before }
     ensures { AppendsReading F.flavor Strict bytes.now before result }
 {
     let mut text = before;
     let mut rest = bytes;
     let mut len = len;
-    let mut least = FRONT;
+    let mut least = FIRST_RUN;
     while len < rest.len() {
         let is_long = least <= len;
         rest = append_to_next::<F>(rest, len, &mut text)?;
         if are_few(rest) {
-            return append_rest::<F>(rest, text);
+            return append_last::<F>(rest, text);
         }
         if !is_long {
             // Input that ends within a character is rejected before all of it is decoded.
@@ -60,8 +60,8 @@ pub fn append_many<F: Flavor>(bytes: &[u8], len: usize, before: Vec<u8>) -> Resu
             }
             return append_chunks::<F, StrictReading>(rest, text);
         }
-        len = front_of_many::<F, Unchanged>(rest);
-        least = LONG_FRONT;
+        len = longest_prefix::<F, Unchanged>(rest);
+        least = NEXT_RUN;
     }
     append(rest, &mut text);
     Ok(text)
@@ -69,14 +69,14 @@ pub fn append_many<F: Flavor>(bytes: &[u8], len: usize, before: Vec<u8>) -> Resu
 
 /// Appends the strictly decoded text of the last bytes, at most 64.
 #[inline(always)]
-fn append_rest<F: Flavor>(bytes: &[u8], before: Vec<u8>) -> Result<Vec<u8>, NoText>
+fn append_last<F: Flavor>(bytes: &[u8], before: Vec<u8>) -> Result<Vec<u8>, NoText>
     requires few { length bytes.now ≤ FEW_BYTES }
     requires room { vec_len before + length bytes.now ≤ vec_capacity before }
     ensures { AppendsReading F.flavor Strict bytes.now before result }
 {
-    let front = front_of_few::<F>(bytes);
-    if front.len < bytes.len() {
-        return append_few_strictly::<F>(bytes, front, before);
+    let prefix = prefix_by_window::<F>(bytes);
+    if prefix.len < bytes.len() {
+        return append_few_strictly::<F>(bytes, prefix, before);
     }
     let mut text = before;
     append_few(bytes, &mut text);
@@ -84,20 +84,20 @@ fn append_rest<F: Flavor>(bytes: &[u8], before: Vec<u8>) -> Result<Vec<u8>, NoTe
 }
 
 /// Appends the strictly decoded text of at most 64 bytes, which is written to an array first.
-/// `front` is their unchanged prefix, which is not all of them.
+/// `prefix` is their unchanged prefix, which is not all of them.
 #[inline(always)]
 pub fn append_few_strictly<F: Flavor>(
     bytes: &[u8],
-    front: FoundFront,
+    prefix: UnchangedPrefix,
     before: Vec<u8>,
 ) -> Result<Vec<u8>, NoText>
     requires few { length bytes.now ≤ FEW_BYTES }
-    requires front { IsPartialFront F.flavor bytes.now front }
+    requires prefix { IsProperPrefix F.flavor bytes.now prefix }
     requires room { vec_len before + length bytes.now ≤ vec_capacity before }
     ensures { AppendsReading F.flavor Strict bytes.now before result }
 {
     let mut written = [0; FEW_STRICT];
-    let end = write_few::<F, StrictReading>(bytes, front, &mut written)?;
+    let end = write_few::<F, StrictReading>(bytes, prefix, &mut written)?;
     let mut text = before;
     append_few(&written[..end], &mut text);
     Ok(text)
@@ -113,7 +113,7 @@ fn append_to_next<'a, F: Flavor>(
     out: &mut Vec<u8>,
 ) -> Result<&'a [u8], NoText>
     requires many { FEW_BYTES < length bytes.now }
-    requires front { IsFront AllUnchanged F.flavor bytes.now len × (len < length bytes.now) }
+    requires prefix { IsLongestPrefix AllUnchanged F.flavor bytes.now len × (len < length bytes.now) }
     requires room { vec_len out.old + length bytes.now ≤ vec_capacity out.old }
     ensures none { OnErr result (HasNoStrictReading F.flavor bytes.now) }
     ensures read { IfOk result (λ rest.
@@ -122,17 +122,17 @@ fn append_to_next<'a, F: Flavor>(
     ensures within { IfOk result (λ rest. length rest.now < length bytes.now) }
     ensures capacity { vec_capacity out.new ≡ vec_capacity out.old }
 {
-    let behind = &bytes[len..];
+    let after = &bytes[len..];
     let mut padded = [0; PAIR_READ];
-    let prefix = prefix_of(behind, &mut padded);
-    if !changes::<F>(prefix) {
+    let first = first_eight(after, &mut padded);
+    if !changes::<F>(first) {
         return Err(NoText);
     }
     append_front(bytes, len, out);
-    if prefix[0] == 0xC0 {
+    if first[0] == 0xC0 {
         append(&[0], out);
-        return Ok(&behind[2..]);
+        return Ok(&after[2..]);
     }
-    append(&utf8_of_pair(prefix), out);
-    Ok(&behind[PAIR..])
+    append(&utf8_of_pair(first), out);
+    Ok(&after[PAIR..])
 }

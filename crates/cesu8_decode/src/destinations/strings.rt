@@ -10,15 +10,15 @@ ghost use Rattle.cesu8_text.specs.Laws.{NoneCrosses};
 ghost use Rattle.cesu8_bytes.specs.declared.strictness.Strictness.TheVariants.{Strict, Lossy};
 ghost use Rattle.cesu8_decode.specs.Decoding.{BuildsReading, AppendsReading, room_for};
 ghost use Rattle.cesu8_decode.specs.Following.{Unchanged};
-ghost use Rattle.cesu8_decode.specs.Front.{IsFront, IsPartialFront};
+ghost use Rattle.cesu8_decode.specs.Prefixes.{IsLongestPrefix, IsProperPrefix};
 
 use super::chunks::append_chunks;
 use super::strict_append::{append_few_strictly, append_many};
-use crate::front::FoundFront;
 use crate::lengths::lossy_len;
 use crate::needs_conversion::may_lead_changed;
 use crate::pass::few::{FEW_LOSSY, write_few};
 use crate::pass::windows::{LARGE_LOSSY, LARGEST_LOSSY, SMALL_LOSSY, write_all};
+use crate::prefix::UnchangedPrefix;
 use crate::strategy::{FEW_BYTES, LARGEST_ARRAY, Strategy, are_few, strategy_of};
 use cesu8_bytes::BLOCK;
 use cesu8_bytes::flavor::Flavor;
@@ -27,40 +27,40 @@ use cesu8_bytes::writing::copies::{append, copy};
 use std::alloc::{AllocError, Global};
 
 /// Writes the strictly decoded text to an empty vector, or returns an error if a byte is
-/// ill-formed. `front` is the unchanged prefix, which is not all of the bytes.
+/// ill-formed. `prefix` is the unchanged prefix, which is not all of the bytes.
 #[inline(always)]
 pub fn write_strictly<F: Flavor>(
     bytes: &[u8],
-    front: FoundFront,
+    prefix: UnchangedPrefix,
     empty: Vec<u8>,
 ) -> Result<Vec<u8>, NoText>
-    requires front { IsPartialFront F.flavor bytes.now front }
+    requires prefix { IsProperPrefix F.flavor bytes.now prefix }
     requires empty { (empty.items ≡ []) × (length bytes.now ≤ vec_capacity empty) }
     ensures { AppendsReading F.flavor Strict bytes.now empty result }
 {
     if are_few(bytes) {
-        if front.changed == 0 {
+        if prefix.changed == 0 {
             return Err(NoText);
         }
-        return append_few_strictly::<F>(bytes, front, empty);
+        return append_few_strictly::<F>(bytes, prefix, empty);
     }
-    if !may_lead_changed(bytes[front.len]) {
+    if !may_lead_changed(bytes[prefix.len]) {
         return Err(NoText);
     }
-    write_many::<F>(bytes, front.len, empty)
+    write_many::<F>(bytes, prefix.len, empty)
 }
 
-/// Writes the strictly decoded text of more than 64 bytes, of which the first `front` are
+/// Writes the strictly decoded text of more than 64 bytes, of which the first `prefix` are
 /// unchanged. It is split off from `write_strictly`, so that at most 64 bytes skip the zeroing of
 /// result slots: a function zeroes them first, even if it is inlined.
 #[inline(always)]
-fn write_many<F: Flavor>(bytes: &[u8], front: usize, empty: Vec<u8>) -> Result<Vec<u8>, NoText>
+fn write_many<F: Flavor>(bytes: &[u8], prefix: usize, empty: Vec<u8>) -> Result<Vec<u8>, NoText>
     requires many { FEW_BYTES < length bytes.now }
-    requires front { IsFront Unchanged F.flavor bytes.now front }
+    requires prefix { IsLongestPrefix Unchanged F.flavor bytes.now prefix }
     requires empty { (empty.items ≡ []) × (length bytes.now ≤ vec_capacity empty) }
     ensures { AppendsReading F.flavor Strict bytes.now empty result }
 {
-    append_many::<F>(bytes, front, empty)
+    append_many::<F>(bytes, prefix, empty)
 }
 
 /// Returns the lossily decoded text. Allocates once, exactly its length.
@@ -68,13 +68,13 @@ fn write_many<F: Flavor>(bytes: &[u8], front: usize, empty: Vec<u8>) -> Result<V
 pub fn build_lossily<F: Flavor>(
     alloc: Global,
     bytes: &[u8],
-    front: FoundFront,
+    prefix: UnchangedPrefix,
 ) -> Result<Vec<u8>, AllocError>
-    requires { IsPartialFront F.flavor bytes.now front }
+    requires { IsProperPrefix F.flavor bytes.now prefix }
     ensures { BuildsReading F.flavor bytes.now result }
 {
     match strategy_of(bytes) {
-        Strategy::Few => build_few::<F>(alloc, bytes, front),
+        Strategy::Few => build_few::<F>(alloc, bytes, prefix),
         Strategy::SmallArray => build_by_array::<F, SMALL_LOSSY>(alloc, bytes),
         Strategy::LargeArray => build_by_array::<F, LARGE_LOSSY>(alloc, bytes),
         Strategy::LargestArray => build_by_array::<F, LARGEST_LOSSY>(alloc, bytes),
@@ -88,14 +88,14 @@ pub fn build_lossily<F: Flavor>(
 fn build_few<F: Flavor>(
     alloc: Global,
     bytes: &[u8],
-    front: FoundFront,
+    prefix: UnchangedPrefix,
 ) -> Result<Vec<u8>, AllocError>
     requires few { length bytes.now ≤ FEW_BYTES }
-    requires front { IsPartialFront F.flavor bytes.now front }
+    requires prefix { IsProperPrefix F.flavor bytes.now prefix }
     ensures { BuildsReading F.flavor bytes.now result }
 {
     let mut written = [0; FEW_LOSSY];
-    let Ok(end) = write_few::<F, LossyReading>(bytes, front, &mut written);
+    let Ok(end) = write_few::<F, LossyReading>(bytes, prefix, &mut written);
     copy(alloc, &written[..end])
 }
 

@@ -10,7 +10,7 @@ ghost use Rattle.std.specs.Prelude.{◌≡◌, ℕ, List, ◌+◌, ◌*◌, ◌-
 ghost use Rattle.std.specs.List.{range_with_len};
 ghost use Rattle.std.specs.Simd.Lanes.{zip2};
 ghost use Rattle.cesu8_bytes.specs.Kernels.{mask};
-ghost use Rattle.cesu8_decode.specs.Following.{CharacterSet as AnySet, has_changed, shown, wanted, follows_at, AllFollow, IsBlockAt};
+ghost use Rattle.cesu8_decode.specs.Following.{CharacterSet as AnySet, has_changed, pair_class, required_class, follows_at, AllFollow, IsBlockAt};
 
 use super::character_set::{Block, CharacterSet, DECIDING, OVERLONG_C0, SURROGATE, TWO_CONTS};
 use super::tables::{FROM_28, FROM_29, FROM_30, FROM_31, HighestBit, common_bits};
@@ -75,16 +75,16 @@ fn misplaced<F: Flavor, S: CharacterSet>(block: Block) -> u8x32
         → result ≡ map (λ i. mask (not (follows_at S.set F.flavor window i)))
         (range_with_len at BLOCK) }
 {
-    let wanted = wanted_by::<S>(block.four_before, block.three_before, block.two_before);
+    let required_class = wanted_by::<S>(block.four_before, block.three_before, block.two_before);
     shown_by::<F, S>(block.one_before, block.bytes)
-        .simd_eq(wanted)
+        .simd_eq(required_class)
         .select(u8x32::splat(0), u8x32::splat(0xFF))
 }
 
 /// Returns the class of each pair of bytes.
 #[inline(always)]
 fn shown_by<F: Flavor, S: CharacterSet>(first: u8x32, second: u8x32) -> u8x32
-    ensures { result ≡ zip2 (shown S.set F.flavor) first second }
+    ensures { result ≡ zip2 (pair_class S.set F.flavor) first second }
 {
     let rule = S::rule();
     let of_two = common_bits(rule.by_high, rule.by_low, rule.by_next, first, second);
@@ -114,7 +114,7 @@ fn kept_of_null<S: CharacterSet>(bytes: u8x32) -> u8x32
 #[inline(always)]
 fn wanted_by<S: CharacterSet>(four_before: u8x32, three_before: u8x32, two_before: u8x32) -> u8x32
     ensures { result ≡ zip2 (λ wants d. wants d)
-        (zip2 (wanted S.set) four_before three_before) two_before }
+        (zip2 (required_class S.set) four_before three_before) two_before }
 {
     // The highest bit is left if the byte is E0 or more, the lead byte of a character of three
     // bytes.

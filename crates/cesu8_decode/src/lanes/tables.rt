@@ -3,7 +3,7 @@
 
 ghost use Rattle.std.specs.Prelude.{◌≡◌, ◌%◌, map, slice_index};
 ghost use Rattle.std.specs.Simd.Lanes.{zip2};
-ghost use Rattle.cesu8_decode.specs.Following.{told};
+ghost use Rattle.cesu8_decode.specs.Following.{table_bits};
 
 use cesu8_bytes::BLOCK;
 use cesu8_bytes::lanes::class::AtLeast;
@@ -49,7 +49,7 @@ pub fn common_bits(
     first: u8x32,
     second: u8x32,
 ) -> u8x32
-    ensures { result ≡ zip2 (told by_high by_low by_next) first second }
+    ensures { result ≡ zip2 (table_bits by_high by_low by_next) first second }
 {
     let four = u8x32::splat(4);
     look_up(by_high, first >> four) & look_up(by_low, first) & look_up(by_next, second >> four)

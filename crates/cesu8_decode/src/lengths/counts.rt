@@ -7,8 +7,9 @@
 ghost use Rattle.std.specs.Prelude.{◌≡◌, ◌+◌, ◌-◌, ◌*◌, ◌<◌, ◌≤◌, length, drop};
 ghost use Rattle.cesu8_decode.specs.DecodedOffsets.{total_saved, saved_between};
 
-use crate::lanes::masks::{STEP, masks_of};
+use crate::lanes::masks::masks_of;
 use crate::lanes::padded::padded;
+use crate::strategy::is_one_block;
 use cesu8_bytes::BLOCK;
 use cesu8_bytes::flavor::Flavor;
 use cesu8_bytes::lanes::class::LANES;
@@ -21,19 +22,10 @@ pub fn saved_by_few<F: Flavor>(bytes: &[u8]) -> usize
     requires { length bytes.now ≤ LANES }
     ensures { result ≡ total_saved F.flavor bytes.now }
 {
-    if bytes.len() <= BLOCK {
+    if is_one_block(bytes) {
         return saved_by_lanes::<F, BLOCK>(padded_half(bytes), 0, bytes.len());
     }
     saved_by_lanes::<F, LANES>(padded(bytes), 0, bytes.len())
-}
-
-/// Returns what the next `STEP` offsets save: those whose characters end within a vector.
-#[inline(always)]
-pub fn saved_by_step<F: Flavor>(bytes: &[u8], at: usize) -> usize
-    requires { at + LANES ≤ length bytes.now }
-    ensures { result ≡ saved_between F.flavor bytes.now at STEP }
-{
-    saved_by_lanes::<F, LANES>(u8x64::from_slice(&bytes[at..]), 0, STEP)
 }
 
 /// Returns what the last `count` offsets save, from a vector of the last 64 bytes.
@@ -49,7 +41,7 @@ pub fn saved_by_last<F: Flavor>(bytes: &[u8], count: usize) -> usize
 /// Returns what `count` offsets save, after the first `counted`. The lanes count as followed by
 /// zeros.
 #[inline(always)]
-fn saved_by_lanes<F: Flavor, const N: usize>(
+pub fn saved_by_lanes<F: Flavor, const N: usize>(
     lanes: Simd<u8, N>,
     counted: usize,
     count: usize,

@@ -8,14 +8,14 @@ ghost use Rattle.std.specs.Prelude.{◌≡◌, ℕ, ◌≤◌, length, slice_ind
 ghost use Rattle.cesu8_bytes.specs.declared.strictness.Strictness.{Strictness as AnyStrictness};
 ghost use Rattle.cesu8_bytes.specs.declared.strictness.Strictness.TheVariants.{Lossy};
 ghost use Rattle.cesu8_decode.specs.Decoding.{WritesReading, WritesText, room_for_few};
-ghost use Rattle.cesu8_decode.specs.Front.{AreChanges, IsPartialFront};
+ghost use Rattle.cesu8_decode.specs.Prefixes.{AreChanges, IsProperPrefix};
 ghost use Rattle.cesu8_decode.specs.Masks.{IsWindow};
 
 use super::window::WIDEST;
-use crate::front::FoundFront;
 use crate::lanes::padded::load;
 use crate::lanes::windows::{Window, window_of_few};
 use crate::pass::events::{STORED_AFTER, write_events};
+use crate::prefix::UnchangedPrefix;
 use crate::strategy::FEW_BYTES;
 use cesu8_bytes::flavor::Flavor;
 use cesu8_bytes::lanes::class::{Equal, LANES, bits};
@@ -35,11 +35,11 @@ const SOURCE: usize = FEW_BYTES + LANES;
 #[inline(always)]
 pub fn write_few<F: Flavor, S: Reading>(
     bytes: &[u8],
-    front: FoundFront,
+    front: UnchangedPrefix,
     out: &mut [u8],
 ) -> Result<usize, S::Refusal>
     requires few { length bytes.now ≤ FEW_BYTES }
-    requires front { IsPartialFront F.flavor bytes.now front }
+    requires front { IsProperPrefix F.flavor bytes.now front }
     requires room { room_for_few S.which ≤ length out.old }
     ensures { WritesReading F.flavor S.which bytes.now result out.old out.new }
 {

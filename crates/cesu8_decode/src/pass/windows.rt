@@ -9,9 +9,9 @@ ghost use Rattle.std.specs.Prelude.{◌≡◌, ℕ, ◌+◌, ◌-◌, ◌*◌, �
 ghost use Rattle.cesu8_decode.specs.Decoding.{IsPass, GoesOn, WritesReading, pass_from, room_for};
 
 use super::window::{READ_AFTER, ROOM, WIDEST, write_window};
-use crate::front::front_of_many;
 use crate::lanes::character_set::Unchanged;
 use crate::lanes::windows::STEP;
+use crate::prefix::longest_prefix;
 use crate::strategy::{LARGE_ARRAY, LARGEST_ARRAY, SMALL_ARRAY, are_few};
 use cesu8_bytes::flavor::Flavor;
 use cesu8_bytes::lanes::class::LANES;
@@ -172,7 +172,7 @@ fn copy_unchanged<F: Flavor, S: Reading>(
     if are_few(part) {
         return before;
     }
-    let len = front_of_many::<F, Unchanged>(part);
+    let len = longest_prefix::<F, Unchanged>(part);
     Pass {
         read: before.read + len,
         end: put(&part[..len], out, before.end),

@@ -15,11 +15,11 @@ use super::bytes::strictness::{LossyReading, Reading, StrictReading};
 use super::bytes::utf8::{known_string, known_text};
 use super::bytes::writing::copies::append_few;
 use super::calls::{self, TooShort, mutf8};
-use super::decode::front::{FoundFront, front_of_many};
+use super::decode::error::WriteError;
 use super::decode::lanes::character_set::Unchanged;
-use super::decode::modes::{Accepts, EncodingAlone, Lenient, front_unless_kept};
+use super::decode::modes::{Accepts, EncodingAlone, Lenient, prefix_unless_kept};
 use super::decode::pass::few::{FEW_STRICT, write_few};
-use super::decode::refusal::Unwritten;
+use super::decode::prefix::{UnchangedPrefix, longest_prefix};
 use super::decode::to_slice::decode_to_slice;
 use super::decode::valid::valid_up_to_other;
 use super::kit::is_utf8_by_parts;
@@ -93,8 +93,8 @@ impl Accepts for Tested {
     }
 
     #[cfg_attr(not(debug_assertions), inline(always))]
-    fn front_of_other<F: Flavor>(bytes: &[u8]) -> FoundFront {
-        EncodingAlone::front_of_other::<F>(bytes)
+    fn prefix_of_other<F: Flavor>(bytes: &[u8]) -> UnchangedPrefix {
+        EncodingAlone::prefix_of_other::<F>(bytes)
     }
 }
 
@@ -103,9 +103,9 @@ impl Accepts for Tested {
 #[cfg_attr(not(debug_assertions), inline(always))]
 fn front_unless_unchanged<F: Flavor, A: Accepts, const LENIENT: bool>(
     bytes: &[u8],
-) -> Option<FoundFront> {
+) -> Option<UnchangedPrefix> {
     if bytes.len() <= FEW {
-        return front_unless_kept::<F, Tested>(bytes);
+        return prefix_unless_kept::<F, Tested>(bytes);
     }
     if A::is_short_kept::<F>(bytes) {
         return None;
@@ -113,24 +113,24 @@ fn front_unless_unchanged<F: Flavor, A: Accepts, const LENIENT: bool>(
     // UTF-8 may have a byte 00, which CESU-8 leaves unchanged, and so its test is the shorter one. These
     // are inlined, unlike those of fewer bytes, since they are little but a call.
     let mut len = if LENIENT {
-        front_of_many::<Cesu8Flavor, Unchanged>(bytes)
+        longest_prefix::<Cesu8Flavor, Unchanged>(bytes)
     } else {
-        front_of_many::<F, Unchanged>(bytes)
+        longest_prefix::<F, Unchanged>(bytes)
     };
     if LENIENT
         && F::has_long_null()
         && len < bytes.len()
         && contains_changed::<F>(bytes.part(..len))
     {
-        len = front_of_many::<F, Unchanged>(bytes);
+        len = longest_prefix::<F, Unchanged>(bytes);
     }
-    if len == bytes.len() { None } else { Some(FoundFront { len, changed: 0 }) }
+    if len == bytes.len() { None } else { Some(UnchangedPrefix { len, changed: 0 }) }
 }
 
 /// Returns whether bytes are UTF-8, of which `front` are. If they are, the encoding lacks the
 /// character after the front.
 #[cfg_attr(not(debug_assertions), inline(always))]
-fn is_utf8_after(front: FoundFront, bytes: &[u8]) -> bool {
+fn is_utf8_after(front: UnchangedPrefix, bytes: &[u8]) -> bool {
     let rest = bytes.part(front.len..);
     matches!(rest, [0 | 0xF0..=0xF7, ..]) && is_utf8_by_parts(rest)
 }
@@ -151,14 +151,14 @@ fn strict<F: Flavor, A: Accepts, const LENIENT: bool>(
 #[cfg_attr(not(debug_assertions), inline(always))]
 fn strict_other<F: Flavor>(
     bytes: &[u8],
-    front: FoundFront,
+    front: UnchangedPrefix,
     is_lenient: bool,
 ) -> Result<Cow<'_, str>, DecodingError> {
     at_level! {
         #[inline(never)] {
             fn at_level<F: Flavor>(
                 bytes: &[u8],
-                front: FoundFront,
+                front: UnchangedPrefix,
                 is_lenient: bool,
             ) -> Result<Cow<'_, str>, DecodingError> {
                 // Of few bytes, none is ill-formed if it is known what changes.
@@ -179,7 +179,7 @@ fn strict_other<F: Flavor>(
 
 /// Decodes strictly at most 64 bytes, of which some change.
 #[cfg_attr(not(debug_assertions), inline(always))]
-fn strict_few<F: Flavor>(bytes: &[u8], front: FoundFront) -> Result<Cow<'_, str>, DecodingError> {
+fn strict_few<F: Flavor>(bytes: &[u8], front: UnchangedPrefix) -> Result<Cow<'_, str>, DecodingError> {
     let mut written = [0; FEW_STRICT];
     let Ok(len) = write_few::<F, StrictReading>(bytes, front, &mut written) else {
         return Err(DecodingError(()));
@@ -191,12 +191,12 @@ fn strict_few<F: Flavor>(bytes: &[u8], front: FoundFront) -> Result<Cow<'_, str>
 
 /// Decodes strictly more than 64 bytes. It is not inlined, so that fewer have few registers to save.
 #[cfg_attr(not(debug_assertions), inline(always))]
-fn strict_many<F: Flavor>(bytes: &[u8], front: FoundFront) -> Result<Cow<'_, str>, DecodingError> {
+fn strict_many<F: Flavor>(bytes: &[u8], front: UnchangedPrefix) -> Result<Cow<'_, str>, DecodingError> {
     at_level! {
         #[inline(never)] {
             fn at_level<F: Flavor>(
                 bytes: &[u8],
-                front: FoundFront,
+                front: UnchangedPrefix,
             ) -> Result<Cow<'_, str>, DecodingError> {
                 let rest = bytes.part(front.len..);
                 if valid_up_to_other::<F>(rest) < rest.len() {
@@ -235,9 +235,9 @@ fn too_short(fault: TooShort) -> SliceError {
 fn to_slice<F: Flavor, S: Reading>(bytes: &[u8], buf: &mut [u8]) -> SliceResult {
     match decode_to_slice::<F, Tested, S>(bytes, buf) {
         Ok(len) => Ok(len),
-        Err(Unwritten::NoText) => Err(SliceError::Invalid),
-        Err(Unwritten::TooLong) => Err(SliceError::TooLong),
-        Err(Unwritten::NoRoom(no_room)) => Err(SliceError::TooShort { needed: no_room.needed }),
+        Err(WriteError::NoText) => Err(SliceError::Invalid),
+        Err(WriteError::TooLong) => Err(SliceError::TooLong),
+        Err(WriteError::NoRoom(no_room)) => Err(SliceError::TooShort { needed: no_room.needed }),
     }
 }
 

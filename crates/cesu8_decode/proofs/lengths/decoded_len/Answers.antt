@@ -1,3 +1,5 @@
+-- The text is the unchanged prefix and then the text of the rest, so its length is the sum. If no
+-- byte of the rest is ill-formed, its strict reading is its lossy one, which is no longer than it.
 use Rattle.std.proofs.Common.{◌≡◌, ◌+◌, ◌<◌, ◌∙◌, sym, arith, length, take, drop, length-drop, length-append}
 use Rattle.std.proofs.lemmas.Bool.{eqb-true, eqb-false, both_ways}
 use Rattle.std.proofs.lemmas.List.{take_rest, length-take-le}
@@ -5,9 +7,9 @@ use Rattle.cesu8_text.specs.Reading.{IsStrictReading, reading, lossy_length}
 use Rattle.cesu8_text.specs.Text.{utf8}
 use Rattle.cesu8_text.proofs.reading.KeptTexts.{encoding_texts}
 use Rattle.cesu8_bytes.specs.declared.strictness.Strictness.TheVariants.{Strict}
-use Rattle.cesu8_decode.proofs.chunks.FrontReadings.{unless_begun, none_before, only_behind}
+use Rattle.cesu8_decode.proofs.chunks.TextAfterPrefix.{unless_begun, none_before, only_after}
 use Rattle.cesu8_decode.proofs.chunks.SliceReadings.{only_kept, of_length, strict_no_longer}
-use Rattle.cesu8_decode.proofs.chunks.UnchangedFronts.{all_unchanged, unchanged_front_chunk}
+use Rattle.cesu8_decode.proofs.chunks.UnchangedPrefixes.{all_unchanged, unchanged_prefix_chunk}
 use Rattle.cesu8_decode.proofs.lengths.decoded_len.Goals as goal
 use Rattle.cesu8_decode.proofs.lengths.decoded_len.Goals.{then-not-begins_changed-via-then-not-begins_changed, then-not-begins_changed-via-else-not-begins_changed+then-is_ill_formed}
 
@@ -15,26 +17,26 @@ pub returns-then-is_empty-clause-some : goal.returns-then-is_empty-clause-some
 returns-then-is_empty-clause-some g c =
     let f = g.F.Flavor.flavor in
     let bytes = c.args.bytes.now in
-    let n = c.front-front.result.len in
+    let n = c.unchanged_prefix-prefix.result.len in
     let none : length (drop n bytes) ≡ 0 = eqb-true _ _ (sym (rw take_rest at c.is_empty.ensures) ∙ c.if-is_empty.true) in
-    let all : n ≡ length bytes = omega (arith, none, length-drop n bytes, c.front-front.ensures.len.within) in
+    let all : n ≡ length bytes = omega (arith, none, length-drop n bytes, c.unchanged_prefix-prefix.ensures.len.within) in
     of_length (IsStrictReading f bytes) (λ len. n ≡ len) _ bytes
-    (only_kept f bytes _ _ _ (encoding_texts f bytes) Strict ((all_unchanged f bytes n c.front-front.ensures.len).0 all)) all
+    (only_kept f bytes _ _ _ (encoding_texts f bytes) Strict ((all_unchanged f bytes n c.unchanged_prefix-prefix.ensures.len).0 all)) all
 
 pub returns-then-not-begins_changed-clause-none : goal.returns-then-not-begins_changed-clause-none
 returns-then-not-begins_changed-clause-none g c =
     let f = g.F.Flavor.flavor in
     let bytes = c.args.bytes.now in
-    let n = c.front-front.result.len in
+    let n = c.unchanged_prefix-prefix.result.len in
     let tells = rw take_rest at c.begins_changed.ensures in
     let more : n < length bytes =
     omega (arith, eqb-false _ _ (sym (rw take_rest at c.is_empty.ensures) ∙ c.if-is_empty.false), length-drop n bytes) in
     elim c.then-not-begins_changed.branch [
       | then-not-begins_changed-via-then-not-begins_changed w ↦
-          unless_begun f bytes n c.front-front.ensures.len
+          unless_begun f bytes n c.unchanged_prefix-prefix.ensures.len
           (λ begun. both_ways c.begins_changed.result w.if-not-begins_changed.true (tells.1 begun)) more
       | then-not-begins_changed-via-else-not-begins_changed+then-is_ill_formed w ↦
-          none_before f bytes (drop n bytes) (take n bytes) (unchanged_front_chunk f bytes n c.front-front.ensures.len Strict)
+          none_before f bytes (drop n bytes) (take n bytes) (unchanged_prefix_chunk f bytes n c.unchanged_prefix-prefix.ensures.len Strict)
           (rw take_rest at (w.is_ill_formed.ensures.ill_formed w.if-is_ill_formed.true))
     ]
 
@@ -42,21 +44,21 @@ returns-then-not-begins_changed-clause-none g c =
 pub returns-in_err-rest_len-clause-none : goal.returns-in_err-rest_len-clause-none
 returns-in_err-rest_len-clause-none g c =
     let f = g.F.Flavor.flavor in
-    let rest = drop c.front-front.result.len c.args.bytes.now in
+    let rest = drop c.unchanged_prefix-prefix.result.len c.args.bytes.now in
     let short = strict_no_longer f rest (rw take_rest at (c.is_ill_formed.ensures.whole c.if-is_ill_formed.false)) in
-    absurd (omega (arith, short, rw take_rest at c.in_err-rest_len.ensures.none, length-drop c.front-front.result.len c.args.bytes.now))
+    absurd (omega (arith, short, rw take_rest at c.in_err-rest_len.ensures.none, length-drop c.unchanged_prefix-prefix.result.len c.args.bytes.now))
 
 pub overflow_add-result : goal.overflow_add-result
 overflow_add-result g c =
     let f = g.F.Flavor.flavor in
-    let rest = drop c.front-front.result.len c.args.bytes.now in
+    let rest = drop c.unchanged_prefix-prefix.result.len c.args.bytes.now in
     let short = strict_no_longer f rest (rw take_rest at (c.is_ill_formed.ensures.whole c.if-is_ill_formed.false)) in
     omega (
       arith,
       short,
       rw take_rest at c.in_ok-rest_len.ensures.some,
-      length-drop c.front-front.result.len c.args.bytes.now,
-      c.front-front.ensures.len.within,
+      length-drop c.unchanged_prefix-prefix.result.len c.args.bytes.now,
+      c.unchanged_prefix-prefix.ensures.len.within,
     )
 
 pub returns-clause-some : goal.returns-clause-some
@@ -64,14 +66,14 @@ unfolding lossy_length
 returns-clause-some g c =
     let f = g.F.Flavor.flavor in
     let bytes = c.args.bytes.now in
-    let n = c.front-front.result.len in
+    let n = c.unchanged_prefix-prefix.result.len in
     let rest = drop n bytes in
     let whole = rw take_rest at (c.is_ill_formed.ensures.whole c.if-is_ill_formed.false) in
     of_length (IsStrictReading f bytes) (λ len. n + c.in_ok-rest_len.rest_len ≡ len) _ _
-    (only_behind f bytes rest (take n bytes) (unchanged_front_chunk f bytes n c.front-front.ensures.len Strict) (reading f rest) whole)
+    (only_after f bytes rest (take n bytes) (unchanged_prefix_chunk f bytes n c.unchanged_prefix-prefix.ensures.len Strict) (reading f rest) whole)
     (omega (
       arith,
       rw take_rest at c.in_ok-rest_len.ensures.some,
       length-append (take n bytes) (utf8 (reading f rest)),
-      length-take-le n bytes c.front-front.ensures.len.within,
+      length-take-le n bytes c.unchanged_prefix-prefix.ensures.len.within,
     ))

@@ -1,27 +1,31 @@
+-- The lossy reading has three bytes for each byte, less what all offsets save
+-- (`lossy_length_by_savings`), so no subtraction is below 0.
 use Rattle.std.proofs.Common.{◌≡◌, ◌-◌, ◌∙◌, ap, arith, length, drop}
 use Rattle.cesu8_decode.specs.DecodedOffsets.{total_saved}
 use Rattle.cesu8_decode.proofs.by_offset.Savings.{lossy_length_by_savings, length_given}
-use Rattle.cesu8_decode.proofs.decoder.MaskCounts.{saved_next}
+use Rattle.cesu8_decode.proofs.decoder.MaskCounts.{saved_in_chunk, saved_next}
 use Rattle.cesu8_decode.proofs.lengths.lossy_len.Goals as goal
 
 pub overflow_sub-result : goal.overflow_sub-result
 overflow_sub-result g c = omega (arith, c.saved_by_few.ensures, lossy_length_by_savings g.F.Flavor.flavor c.args.bytes.now)
 
-pub returns-then-bytes-le-LANES-clause-some : goal.returns-then-bytes-le-LANES-clause-some
-returns-then-bytes-le-LANES-clause-some g c =
+pub returns-then-are_few-clause-some : goal.returns-then-are_few-clause-some
+returns-then-are_few-clause-some g c =
     omega (arith, c.saved_by_few.ensures, lossy_length_by_savings g.F.Flavor.flavor c.args.bytes.now)
 
 pub overflow_sub-len : goal.overflow_sub-len
 overflow_sub-len g c =
     let f = g.F.Flavor.flavor in
     let next = saved_next f c.args.bytes.now c.loop-at.at 59 (omega arith) in
-    omega (arith, next, c.saved_by_step.ensures, c.loop-at.invariant.1, lossy_length_by_savings f c.args.bytes.now)
+    let step = c.saved_by_lanes.ensures ∙ saved_in_chunk f c.args.bytes.now c.loop-at.at 59 (omega arith) in
+    omega (arith, next, step, c.loop-at.invariant.1, lossy_length_by_savings f c.args.bytes.now)
 
 pub loop-at-preserved : goal.loop-at-preserved
 loop-at-preserved g c =
     let f = g.F.Flavor.flavor in
     let next = saved_next f c.args.bytes.now c.loop-at.at 59 (omega arith) in
-    (omega arith, omega (arith, next, c.saved_by_step.ensures, c.loop-at.invariant.1, lossy_length_by_savings f c.args.bytes.now))
+    let step = c.saved_by_lanes.ensures ∙ saved_in_chunk f c.args.bytes.now c.loop-at.at 59 (omega arith) in
+    (omega arith, omega (arith, next, step, c.loop-at.invariant.1, lossy_length_by_savings f c.args.bytes.now))
 
 pub overflow_sub-len-2 : goal.overflow_sub-len-2
 overflow_sub-len-2 g c =

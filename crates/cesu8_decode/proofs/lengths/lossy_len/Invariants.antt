@@ -1,3 +1,4 @@
+-- `len` is three times the length less what the first `at` offsets save.
 use Rattle.std.proofs.Common.{◌≡◌, ◌+◌, ◌*◌, ◌-◌, ◌<◌, length, drop}
 use Rattle.cesu8_decode.specs.DecodedOffsets.{total_saved}
 use Rattle.cesu8_decode.proofs.lengths.lossy_len.Given as goal

@@ -1,8 +1,9 @@
+-- The lenient mode returns its input unchanged exactly if it is UTF-8, in either encoding.
 use Rattle.std.proofs.Common.{eq-eqb}
 use Rattle.std.proofs.lemmas.Bool.{eqb-true}
 use Rattle.cesu8_decode.proofs.modes.is_utf8.Goals as goal
 
 pub returns : goal.returns
 returns c =
-    let kept = c.front_of_other.ensures.kept in
+    let kept = c.prefix_of_other.ensures.kept in
     (λ all. kept.0 (eqb-true _ _ all), λ is_utf8. eq-eqb _ _ (kept.1 is_utf8))

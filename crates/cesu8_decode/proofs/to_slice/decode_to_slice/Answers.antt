@@ -1,3 +1,4 @@
+-- Input that the mode returns unchanged is its own text, so a copy of it suffices.
 use Rattle.std.proofs.Common.{arith}
 use Rattle.cesu8_decode.proofs.chunks.SliceReadings.{kept_put}
 use Rattle.cesu8_decode.proofs.to_slice.decode_to_slice.Goals as goal

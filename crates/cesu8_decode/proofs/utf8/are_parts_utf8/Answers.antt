@@ -1,3 +1,4 @@
+-- Parts of UTF-8 that end at character boundaries are UTF-8, and so are two such parts together.
 use Rattle.std.proofs.Common.{◌-◌, arith, drop, subst, sym, take, take-add, true≢false}
 use Rattle.std.specs.Str.{IsUtf8}
 use Rattle.std.proofs.lemmas.Bool.{both_ways}

@@ -1,3 +1,4 @@
+-- The bytes before `start` are UTF-8. Each part has at least one byte, so the loop ends.
 use Rattle.std.proofs.Common.{◌-◌, ◌≤◌, length, take}
 use Rattle.std.specs.Str.{IsUtf8}
 use Rattle.cesu8_decode.proofs.utf8.are_parts_utf8.Given as goal

@@ -1,3 +1,5 @@
+-- A byte that is no continuation byte begins a character, and in UTF-8 no four continuation bytes
+-- follow each other (`start_is_boundary`).
 use Rattle.std.proofs.Common.{◌-◌, ℕ, arith, below_more, get_or, inl, inr, refl}
 use Rattle.std.proofs.lemmas.Bool.{both_ways}
 use Rattle.cesu8_text.specs.Patterns.{IsContinuation}

@@ -1,3 +1,4 @@
+-- The checker has read the bytes before `at`. Each step reads 64, so the loop ends.
 use Rattle.std.proofs.Common.{◌-◌, ◌≤◌, length, take}
 use Rattle.simdutf8.specs.Tracks.{HasRead}
 use Rattle.cesu8_decode.proofs.utf8.is_part_utf8.Given as goal

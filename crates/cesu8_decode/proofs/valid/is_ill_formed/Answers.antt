@@ -1,3 +1,5 @@
+-- The valid prefix is the longest one with a strict reading. So all bytes have one exactly if the
+-- prefix is all of them, and it is then their lossy reading.
 use Rattle.std.proofs.Common.{◌≡◌, ◌∙◌, ap, length, subst, sym, take, arith}
 use Rattle.std.proofs.Math.Seq.{take-length}
 use Rattle.std.proofs.lemmas.Bool.{ltb-true, ltb-false}
@@ -15,8 +17,8 @@ pub returns-clause-whole : goal.returns-clause-whole
 returns-clause-whole g c none =
     let f = g.F.Flavor.flavor in
     let bytes = c.args.bytes.now in
-    let front = c.valid_up_to_other.ensures in
-    let text = front.valid.0 in
-    let all : c.valid_up_to_other.result ≡ length bytes = omega (arith, front.within, ltb-false _ _ none) in
-    let reads = front.valid.1.1 ∙ ap (λ n. take n bytes) all ∙ take-length bytes in
-    subst (IsStrictReading f bytes) (sym (reading_encoding f text front.valid.1.0) ∙ ap (reading f) reads) (front.valid.1.0, reads)
+    let prefix = c.valid_up_to_other.ensures in
+    let text = prefix.valid.0 in
+    let all : c.valid_up_to_other.result ≡ length bytes = omega (arith, prefix.within, ltb-false _ _ none) in
+    let reads = prefix.valid.1.1 ∙ ap (λ n. take n bytes) all ∙ take-length bytes in
+    subst (IsStrictReading f bytes) (sym (reading_encoding f text prefix.valid.1.0) ∙ ap (reading f) reads) (prefix.valid.1.0, reads)

@@ -28,7 +28,7 @@ returns-in_default g c =
     }
 
 pub decode_strict-requires : goal.decode_strict-requires
-decode_strict-requires g c = c.in-Some.ensures.front
+decode_strict-requires g c = c.in-Some.ensures.prefix
 
 pub returns : goal.returns
 returns g c =

@@ -30,7 +30,7 @@ returns-in_default g c =
     }
 
 pub decode_lossy-requires : goal.decode_lossy-requires
-decode_lossy-requires g c = c.in-Some.ensures.front
+decode_lossy-requires g c = c.in-Some.ensures.prefix
 
 pub returns : goal.returns
 returns g c =

@@ -1,8 +1,11 @@
+-- Each pass adds to the text of the bytes that were read before (`reads_on`), so after the last
+-- byte the vector ends with the text of all of them. What is decoded so far never has more bytes
+-- than the text of the input (`decoded_fits`), so the next chunk fits the capacity.
 use Rattle.std.proofs.Common.{◌≡◌, ◌∙◌, false, true, refl, sym, subst, arith, take, length, length-append}
 use Rattle.std.proofs.lemmas.List.{length-take-le}
 use Rattle.cesu8_decode.specs.Decoding.{IsDecoded}
 use Rattle.cesu8_decode.specs.DecodedOffsets.{window_of}
-use Rattle.cesu8_decode.proofs.chunks.FrontReadings.{none_appended}
+use Rattle.cesu8_decode.proofs.chunks.TextAfterPrefix.{none_appended}
 use Rattle.cesu8_decode.proofs.decoder.BlocksInPlace.{all_decoded, decoded_fits, none_decoded, none_refused, refused_decoded, some_refused}
 use Rattle.cesu8_decode.proofs.decoder.Passes.{at_start, reads_on}
 use Rattle.cesu8_decode.proofs.destinations.chunks.append_chunks.Goals as goal

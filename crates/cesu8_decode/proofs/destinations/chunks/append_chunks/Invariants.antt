@@ -1,3 +1,5 @@
+-- So far the vector has what was there before and then the text of the first `read` bytes. Each
+-- pass reads at least one byte, so the loop ends.
 use Rattle.std.proofs.Common.{◌≡◌, ◌-◌, false, length, vec_capacity}
 use Rattle.cesu8_decode.specs.Decoding.{IsDecoded, IsPass}
 use Rattle.cesu8_decode.specs.DecodedOffsets.{window_of}

@@ -1,17 +1,19 @@
+-- The pass writes over the appended zeros, and the truncation removes those after the text, so the
+-- vector keeps its bytes and gains what the pass wrote.
 use Rattle.std.proofs.Common.{◌≡◌, ◌≤◌, ◌∙◌, ℕ, ◌+◌, List, ◌++◌, sym, ap, arith, length, take, replicate, length-append}
 use Rattle.std.proofs.Math.Seq.{take-append-add, take-append_seam}
 use Rattle.std.proofs.lemmas.List.{take-append-le, take-take}
 use Rattle.cesu8_decode.proofs.destinations.chunks.append_next.Goals as goal
 
 -- What is written after a prefix is unchanged by a truncation at its end.
-written_behind : (start end len : ℕ) (front new other more : List ℕ) → length front ≡ start → end ≤ length new → start + end ≤ len →
-    take (start + end) (take len ((front ++ (new ++ other)) ++ more)) ≡ front ++ take end new
-written_behind start end len front new other more long inside fits =
-    let place : start + end ≡ length front + end = omega (arith, long) in
-    take-take (start + end) len ((front ++ (new ++ other)) ++ more) (omega (arith, fits))
-    ∙ take-append-le (start + end) (front ++ (new ++ other)) more (omega (arith, length-append front (new ++ other), length-append new other, long, inside))
-    ∙ ap (λ n. take n (front ++ (new ++ other))) place ∙ take-append-add front (new ++ other) end
-    ∙ ap (λ bs. front ++ bs) (take-append-le end new other inside)
+written_after : (start end len : ℕ) (prefix new other more : List ℕ) → length prefix ≡ start → end ≤ length new → start + end ≤ len →
+    take (start + end) (take len ((prefix ++ (new ++ other)) ++ more)) ≡ prefix ++ take end new
+written_after start end len prefix new other more long inside fits =
+    let place : start + end ≡ length prefix + end = omega (arith, long) in
+    take-take (start + end) len ((prefix ++ (new ++ other)) ++ more) (omega (arith, fits))
+    ∙ take-append-le (start + end) (prefix ++ (new ++ other)) more (omega (arith, length-append prefix (new ++ other), length-append new other, long, inside))
+    ∙ ap (λ n. take n (prefix ++ (new ++ other))) place ∙ take-append-add prefix (new ++ other) end
+    ∙ ap (λ bs. prefix ++ bs) (take-append-le end new other inside)
 
 pub returns-clause-next : goal.returns-clause-next
 returns-clause-next g c =
@@ -21,7 +23,7 @@ returns-clause-next g c =
     let cleared = c.deref_mut.result.now in
     let long : start ≡ length old = omega (arith, c.len-start.ensures, c.args.out.now.ok) in
     let zeros = replicate {A = ℕ} c.min.result 0 in
-    let front : take start cleared ≡ old =
+    let prefix : take start cleared ≡ old =
     ap (take start) (c.deref_mut.ensures.value ∙ c.append_zeros.ensures.bytes) ∙ ap (λ n. take n (old ++ zeros)) long ∙ take-append_seam old zeros in
     let chunk = take c.write_windows-pass-2.result.end c.write_windows-pass-2.new.out in
     record {
@@ -29,8 +31,8 @@ returns-clause-next g c =
       new = c.write_windows-pass-2.new.out;
       more = more;
       text = λ fine. c.truncate.ensures.items
-          ∙ written_behind start _ _ (take start cleared) c.write_windows-pass-2.new.out _ _ (ap length front ∙ sym long) more.inside
+          ∙ written_after start _ _ (take start cleared) c.write_windows-pass-2.new.out _ _ (ap length prefix ∙ sym long) more.inside
           (omega (arith, more.inside, more.len, c.append_zeros.ensures.len, c.deref_mut.ensures))
-          ∙ ap (λ bs. bs ++ chunk) front;
+          ∙ ap (λ bs. bs ++ chunk) prefix;
       capacity = c.truncate.ensures.capacity ∙ c.append_zeros.ensures.capacity;
     }

@@ -1,3 +1,5 @@
+-- Each pass adds to the text of the bytes that were read before (`reads_on`), which is never longer
+-- than the lossy reading (`decoded_fits`), so each chunk fits the slice.
 use Rattle.std.proofs.Common.{◌≡◌, ℕ, ◌+◌, ◌≤◌, List, ◌++◌, ◌∙◌, [], false, refl, subst, arith, take, length, length-append}
 use Rattle.std.proofs.lemmas.List.{length-take-le}
 use Rattle.cesu8_text.specs.Encoding.{Flavor}

@@ -1,3 +1,4 @@
+-- All bytes are decoded to the array, so a copy of that text to the slice is all that is promised.
 use Rattle.std.proofs.Common.{arith}
 use Rattle.std.proofs.lemmas.List.{length-take}
 use Rattle.cesu8_decode.proofs.chunks.SliceReadings.{decoded_put}

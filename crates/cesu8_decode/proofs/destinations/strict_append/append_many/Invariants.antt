@@ -1,8 +1,11 @@
+-- The text of the bytes before `rest` is appended, the first `len` bytes of `rest` are its
+-- unchanged prefix, and the vector has the capacity for the rest. Each step shortens `rest`, so the
+-- loop ends.
 use Rattle.std.proofs.Common.{◌≡◌, ◌+◌, ◌<◌, ◌≤◌, length, vec_len, vec_capacity}
 use Rattle.cesu8_bytes.specs.TextChunks.{IsReadSoFar}
 use Rattle.cesu8_bytes.specs.declared.strictness.Strictness.TheVariants.{Strict}
 use Rattle.cesu8_decode.specs.Following.{Unchanged}
-use Rattle.cesu8_decode.specs.Front.{IsFront}
+use Rattle.cesu8_decode.specs.Prefixes.{IsLongestPrefix}
 use Rattle.cesu8_decode.specs.declared.strategy.TheConstants.{FEW_BYTES}
 use Rattle.cesu8_decode.proofs.destinations.strict_append.append_many.Given as goal
 
@@ -12,7 +15,7 @@ decreases-loop-len g l = length l.rest
 abbrev pub invariant-loop-len : goal.invariant-loop-len
 invariant-loop-len g l = record {
   read : IsReadSoFar g.F.Flavor.flavor Strict l.fn.bytes l.rest l.fn.before.items l.text.items;
-  front : IsFront Unchanged g.F.Flavor.flavor l.rest l.len;
+  prefix : IsLongestPrefix Unchanged g.F.Flavor.flavor l.rest l.len;
   many : FEW_BYTES < length l.rest;
   room : vec_len l.text + length l.rest ≤ vec_capacity l.text;
   capacity : vec_capacity l.text ≡ vec_capacity l.fn.before;

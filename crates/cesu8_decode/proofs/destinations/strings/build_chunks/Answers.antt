@@ -1,13 +1,14 @@
--- The first part is decoded to an array, and the length of the text of the rest is counted. One string
--- of both lengths is allocated, and gets the array's text and then that of the rest. No character
--- extends from the first part into the rest (`apart`), so the two texts make up the reading.
+-- The first part is decoded to an array, and the length of the text of the rest is counted. One
+-- string of both lengths is allocated, and gets the array's text and then that of the rest. No
+-- character extends from the first part into the rest (`apart`), so the two texts make up the
+-- reading.
 use Rattle.std.proofs.Common.{◌≡◌, ◌+◌, ◌<◌, ◌^◌, ◌∙◌, sym, subst, ap, arith, [], ◌++◌, length, take, IfSome}
 use Rattle.std.proofs.lemmas.List.{length-take-le}
 use Rattle.std.specs.Option.{SomeIff}
 use Rattle.cesu8_text.specs.Reading.{lossy_length}
 use Rattle.cesu8_bytes.specs.TextChunks.{IsReadSoFar}
 use Rattle.cesu8_bytes.specs.declared.strictness.Strictness.TheVariants.{Lossy}
-use Rattle.cesu8_decode.proofs.chunks.Strings.{built_behind}
+use Rattle.cesu8_decode.proofs.chunks.Strings.{built_after}
 use Rattle.cesu8_decode.proofs.destinations.strings.build_chunks.Goals as goal
 
 pub returns : goal.returns
@@ -24,6 +25,6 @@ returns g c =
     let items : c.append.new.out.items ≡ chunk = c.append.ensures.bytes ∙ ap (λ old. old ++ chunk) c.in_ok-text.ensures.items in
     let long : length c.append.new.out.items ≡ end =
     ap length items ∙ length-take-le end c.write_all.new.out (omega (arith, c.in-Ok.ensures.end, c.write_all.auto.out, c.first_part.ensures.first)) in
-    built_behind f bytes first rest c.append.new.out _ c.first_part.ensures.parts (c.first_part.ensures.apart f)
+    built_after f bytes first rest c.append.new.out _ c.first_part.ensures.parts (c.first_part.ensures.apart f)
     (subst (IsReadSoFar f Lossy first [] []) (sym items) c.in-Ok.ensures.text)
     (omega (arith, c.append.ensures.capacity, c.in_ok-text.ensures.exact, sum.1, rest_len, long)) c.in-Ok-append_chunks.ensures

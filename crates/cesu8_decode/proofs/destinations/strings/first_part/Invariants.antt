@@ -1,3 +1,4 @@
+-- The offset goes down from `LARGEST_ARRAY`, so the loop ends and the first part is short enough.
 use Rattle.std.proofs.Common.{◌≤◌}
 use Rattle.cesu8_decode.specs.declared.strategy.TheConstants.{LARGEST_ARRAY}
 use Rattle.cesu8_decode.proofs.destinations.strings.first_part.Given as goal

@@ -1,10 +1,12 @@
+-- The zeros after the bytes in a vector change no character, so what the vector's offsets save is
+-- what the bytes save (`saved_before_zeros`).
 use Rattle.std.proofs.Common.{◌-◌, ◌∙◌, length, ap}
 use Rattle.cesu8_decode.specs.DecodedOffsets.{saved_between}
 use Rattle.cesu8_decode.proofs.decoder.MaskCounts.{saved_before_zeros}
 use Rattle.cesu8_decode.proofs.lengths.counts.saved_by_few.Goals as goal
 
-pub returns-then-bytes-le-BLOCK : goal.returns-then-bytes-le-BLOCK
-returns-then-bytes-le-BLOCK g c =
+pub returns-then-is_one_block : goal.returns-then-is_one_block
+returns-then-is_one_block g c =
     let f = g.F.Flavor.flavor in
     let bytes = c.args.bytes.now in
     c.saved_by_lanes.ensures

@@ -1,3 +1,5 @@
+-- Each bit of the masks stands for one character of its form, so the numbers of bits give the sum
+-- (`saved_by_masks`).
 use Rattle.cesu8_decode.proofs.decoder.MaskCounts.{saved_by_masks}
 use Rattle.cesu8_decode.proofs.lengths.counts.saved_by_lanes.Goals as goal
 

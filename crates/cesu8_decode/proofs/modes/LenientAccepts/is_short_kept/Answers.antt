@@ -1,3 +1,4 @@
+-- ASCII is UTF-8, which this mode returns unchanged.
 use Rattle.std.proofs.lemmas.Str.{IsUtf8-from_ascii}
 use Rattle.cesu8_decode.proofs.modes.LenientAccepts.is_short_kept.Goals as goal
 

@@ -1,0 +1,22 @@
+-- If the unchanged prefix is all bytes, they are their own text, and appending them is decoding
+-- them.
+use Rattle.std.proofs.Common.{◌++◌, ◌∙◌, sym, ap, arith, drop, length-drop}
+use Rattle.std.proofs.lemmas.List.{take_all}
+use Rattle.cesu8_bytes.specs.declared.strictness.Strictness.TheVariants.{Strict}
+use Rattle.cesu8_decode.proofs.chunks.TextAfterPrefix.{prefix_appended}
+use Rattle.cesu8_decode.proofs.chunks.ReadChunks.{none_left, nothing_read}
+use Rattle.cesu8_decode.proofs.destinations.strict_append.append_last.Goals as goal
+
+pub returns : goal.returns
+returns g c =
+    let f = g.F.Flavor.flavor in
+    let bytes = c.args.bytes.now in
+    let n = c.prefix_by_window-prefix.result.len in
+    let prefix = c.append_few.ensures.bytes ∙ ap (λ bs. c.args.before.items ++ bs) (sym (take_all n bytes (omega (arith, c.if-prefix-bytes.false)))) in
+    record {
+      text = none_left f Strict bytes (drop n bytes) _ _
+          (prefix_appended f bytes n c.prefix_by_window-prefix.ensures.len bytes _ _ _ (nothing_read f Strict bytes c.args.before.items) prefix)
+          (omega (arith, length-drop n bytes, c.if-prefix-bytes.false));
+      capacity = c.append_few.ensures.capacity;
+      none = tt;
+    }

@@ -1,0 +1,192 @@
+//! The length of a prefix of whole characters: of all encoded characters (the valid prefix), or
+//! only of those that are unchanged in UTF-8 (the unchanged prefix). If the ASCII
+//! fast path of a call fails, the call continues with the unchanged prefix. Strict decoding of more
+//! than 64 bytes continues after it, and other decoding starts again from the first byte.
+//!
+//! Vectors find the first byte that cannot follow the bytes before it (`lanes::following`). The
+//! prefix ends there, or at the last character boundary before that byte if a character is cut off.
+//! At most 64 bytes are one window instead, whose masks give the prefix.
+
+ghost use Rattle.std.specs.Prelude.{◌≡◌, ◌+◌, ◌-◌, ◌<◌, ◌≤◌, length, slice_index};
+ghost use Rattle.cesu8_decode.specs.Following.{FirstFollow, FollowUpTo, Encoded as AllEncoded, after_fillers, crosses_at, is_high_surrogate};
+ghost use Rattle.cesu8_decode.specs.Prefixes.{IsLongestPrefix, IsUnchangedPrefix};
+
+pub mod window;
+
+use crate::lanes::character_set::{CharacterSet, DECIDING, Unchanged};
+use crate::lanes::following::{block_behind, following_len, two_follow};
+use crate::strategy::{FEW_BYTES, are_few};
+use cesu8_bytes::BLOCK;
+use cesu8_bytes::flavor::Flavor;
+use cesu8_bytes::lanes::class::{Either, NonAscii};
+use cesu8_bytes::lanes::runs::run_of_groups;
+use std::simd::prelude::*;
+pub use window::UnchangedPrefix;
+use window::prefix_by_window;
+
+/// Returns the unchanged prefix.
+#[inline(always)]
+pub fn unchanged_prefix<F: Flavor>(bytes: &[u8]) -> UnchangedPrefix
+    ensures { IsUnchangedPrefix F.flavor bytes.now result }
+{
+    if are_few(bytes) {
+        return prefix_by_window::<F>(bytes);
+    }
+    UnchangedPrefix {
+        len: longest_prefix::<F, Unchanged>(bytes),
+        changed: 0,
+    }
+}
+
+/// Returns the length of the longest prefix of whole characters of a set. The input has more than
+/// 64 bytes.
+#[inline(always)]
+pub fn longest_prefix<F: Flavor, S: CharacterSet>(bytes: &[u8]) -> usize
+    requires { FEW_BYTES < length bytes.now }
+    ensures { IsLongestPrefix S.set F.flavor bytes.now result }
+{
+    last_boundary::<F, S>(bytes, following_many::<F, S>(bytes))
+}
+
+/// Returns the offset of the first byte that cannot follow the bytes before it, or the length if
+/// there is none. The input has more than 64 bytes. It first skips whole groups of unchanged ASCII,
+/// or else tests one block. It is not inlined, since it is long.
+#[inline(never)]
+fn following_many<F: Flavor, S: CharacterSet>(bytes: &[u8]) -> usize
+    requires { FEW_BYTES < length bytes.now }
+    ensures { FollowUpTo S.set F.flavor bytes.now result }
+{
+    let run = run_of_groups::<Either<F::Null, NonAscii>>(bytes);
+    if run == 0 {
+        let block = u8x32::from_slice(bytes);
+        let len = following_len::<F, S>(block_behind(u8x32::splat(0), block));
+        if len != BLOCK {
+            return len;
+        }
+    }
+    following_from::<F, S>(bytes, run.max(BLOCK))
+}
+
+/// Returns the offset of the first byte that cannot follow the bytes before it, or the length if
+/// there is none. It tests two blocks at once from `start` on, and then one block at a time. The
+/// last block overlaps the one before it.
+#[inline(always)]
+fn following_from<F: Flavor, S: CharacterSet>(bytes: &[u8], start: usize) -> usize
+    requires first { FirstFollow S.set F.flavor bytes.now start }
+    requires start { (DECIDING ≤ start) × (FEW_BYTES < length bytes.now) }
+    ensures { FollowUpTo S.set F.flavor bytes.now result }
+{
+    let mut at = following_twos::<F, S>(bytes, start);
+    while bytes.len() - at >= BLOCK {
+        let block = u8x32::from_slice(&bytes[at..]);
+        let len = following_len::<F, S>(S::block_at(block, bytes, at));
+        if len != BLOCK {
+            return at + len;
+        }
+        // This is `at + len`, but the next block need not wait for `len`.
+        at += BLOCK;
+    }
+    if at == bytes.len() {
+        return at;
+    }
+    let last = bytes.len() - BLOCK;
+    let block = u8x32::from_slice(&bytes[last..]);
+    last + following_len::<F, S>(S::block_at(block, bytes, last))
+}
+
+/// Returns an offset up to which every byte can follow the bytes before it. It tests two blocks at
+/// once from `start` on, and stops before the first two with an error.
+#[inline(always)]
+fn following_twos<F: Flavor, S: CharacterSet>(bytes: &[u8], start: usize) -> usize
+    requires first { FirstFollow S.set F.flavor bytes.now start }
+    requires start { DECIDING ≤ start }
+    ensures follow { FirstFollow S.set F.flavor bytes.now result }
+    ensures start { start ≤ result }
+{
+    let mut at = start;
+    while bytes.len() - at >= 2 * BLOCK && two_follow::<F, S>(bytes, at) {
+        at += 2 * BLOCK;
+    }
+    at
+}
+
+/// Returns the last character boundary up to `at`. All bytes before `at` can follow each other, and
+/// the byte at `at`, if there is one, cannot. If the set has no characters that need conversion, a
+/// character that is cut off begins in the last two bytes. Both bytes are loaded before the tests,
+/// to have fewer branches that can be mispredicted.
+#[inline(always)]
+fn last_boundary<F: Flavor, S: CharacterSet>(bytes: &[u8], at: usize) -> usize
+    requires { FollowUpTo S.set F.flavor bytes.now at }
+    ensures { IsLongestPrefix S.set F.flavor bytes.now result }
+{
+    if S::rule().has_changed {
+        return last_uncrossed::<F, S>(bytes, at);
+    }
+    if at == 0 {
+        return at;
+    }
+    // If only one byte precedes `at`, it is loaded twice. The second test is reached only if it is
+    // no lead byte.
+    let last = bytes[at - 1];
+    let second = bytes[at.max(2) - 2];
+    if last >= 0xC0 {
+        at - 1
+    } else if second >= 0xE0 {
+        at - 2
+    } else {
+        at
+    }
+}
+
+/// Like `last_boundary`, for a set with surrogate pairs: tests one offset after another, from `at`
+/// back.
+#[inline(always)]
+fn last_uncrossed<F: Flavor, S: CharacterSet>(bytes: &[u8], at: usize) -> usize
+    requires { FollowUpTo S.set F.flavor bytes.now at }
+    ensures { IsLongestPrefix S.set F.flavor bytes.now result }
+{
+    let mut end = at;
+    while end > 0 && may_be_crossed::<S>(bytes, end) {
+        end -= 1;
+    }
+    end
+}
+
+/// Returns whether a character or a surrogate pair can cross an offset, judged by the four bytes
+/// before it.
+#[inline(always)]
+pub fn may_be_crossed<S: CharacterSet>(bytes: &[u8], at: usize) -> bool
+    requires { at ≤ length bytes.now }
+    ensures { result ≡ crosses_at S.set (after_fillers bytes.now) at }
+{
+    let last = byte_before(bytes, at, 1);
+    let second_last = byte_before(bytes, at, 2);
+    if last >= 0xC0 || second_last >= 0xE0 {
+        return true;
+    }
+    if !S::rule().has_changed {
+        return false;
+    }
+    let third_last = byte_before(bytes, at, 3);
+    begins_high_surrogate(third_last, second_last)
+        || begins_high_surrogate(byte_before(bytes, at, 4), third_last)
+}
+
+/// Returns whether two bytes begin a high surrogate.
+#[inline(always)]
+fn begins_high_surrogate(first: u8, second: u8) -> bool
+    ensures { result ≡ is_high_surrogate AllEncoded first second }
+{
+    first == 0xED && matches!(second, 0xA0..=0xAF)
+}
+
+/// Returns the byte that precedes an offset by `back` bytes, or 0 if there is none. The four bytes
+/// before an offset decide whether a character can cross it.
+#[inline(always)]
+fn byte_before(bytes: &[u8], at: usize, back: usize) -> u8
+    requires at { at ≤ length bytes.now }
+    requires back { (0 < back) × (back ≤ 4) }
+    ensures { result ≡ slice_index (after_fillers bytes.now) (at + (4 - back)) }
+{
+    if back <= at { bytes[at - back] } else { 0 }
+}

@@ -1,0 +1,37 @@
+//! The unchanged prefix of at most 64 bytes, computed from the masks of one window.
+//!
+//! It ends at the first event, an ill-formed byte or a character that needs conversion: the bytes
+//! before the first event are whole unchanged characters, and no longer prefix is.
+
+ghost use Rattle.std.specs.Prelude.{◌≤◌, length};
+ghost use Rattle.cesu8_decode.specs.Prefixes.{IsUnchangedPrefix};
+
+use crate::lanes::windows::window_of_few;
+use crate::strategy::FEW_BYTES;
+use cesu8_bytes::flavor::Flavor;
+
+/// The unchanged prefix of some bytes.
+#[derive(Clone, Copy)]
+pub struct UnchangedPrefix {
+    /// The length of the longest prefix of whole characters that are unchanged in UTF-8.
+    pub len: usize,
+    /// For at most 64 bytes, a bit for each offset at which a surrogate pair begins, or C0 80 in
+    /// MUTF-8. It is 0 if a byte is ill-formed. For more bytes it is not used.
+    pub changed: u64,
+}
+
+/// Returns the unchanged prefix of at most 64 bytes, and which characters need conversion if no
+/// byte is ill-formed.
+#[inline(always)]
+pub fn prefix_by_window<F: Flavor>(bytes: &[u8]) -> UnchangedPrefix
+    requires { length bytes.now ≤ FEW_BYTES }
+    ensures { IsUnchangedPrefix F.flavor bytes.now result }
+{
+    let window = window_of_few::<F>(bytes);
+    let changed = window.pairs | window.nulls;
+    let first = (window.ill_formed | changed).trailing_zeros() as usize;
+    UnchangedPrefix {
+        len: first.min(bytes.len()),
+        changed: if window.ill_formed == 0 { changed } else { 0 },
+    }
+}
