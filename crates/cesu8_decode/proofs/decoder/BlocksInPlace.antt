@@ -25,11 +25,12 @@ use Rattle.cesu8_decode.proofs.by_offset.CharacterBoundaries.{boundary_of_zeros,
 
 -- ---- lengths
 
-one_or_none : (goes : Bool) (b : ℕ) → length (written_for goes false b) ≤ 1
+-- What is written for an offset is at most one byte, or the three of the replacement character.
+pub one_or_none : (goes : Bool) (b : ℕ) → length (written_for goes false b) ≤ 1
 one_or_none true b = omega arith
 one_or_none false b = omega arith
 
-at_most_three : (goes ill_formed : Bool) (b : ℕ) → length (written_for goes ill_formed b) ≤ 3
+pub at_most_three : (goes ill_formed : Bool) (b : ℕ) → length (written_for goes ill_formed b) ≤ 3
 at_most_three goes ill_formed b = grind (arith, nat_tests, common_steps)
 
 -- What is written for n bytes is at most n bytes if none of them is ill-formed, and otherwise at

@@ -1,6 +1,6 @@
 -- The code classifies a pair of bytes by three look-ups in tables of 16 entries, by `swizzle`.
--- These lemmas say that the lanes get the bits that the three entries have in common (`told_are`),
--- and when these equal a given function of two bytes (`told_alike`).
+-- These lemmas say that the lanes get the bits that the three entries have in common (`table_bits_are`),
+-- and when these equal a given function of two bytes (`bits_by_halves`).
 use Rattle.std.proofs.lemmas.Bool.Decides.{nat_tests}
 use Rattle.std.proofs.lemmas.Grind.{same_number_lists}
 use Rattle.std.proofs.Common.{◌≡◌, ℕ, ◌+◌, ◌*◌, ◌/◌, ◌%◌, ◌^◌, ◌<◌, Bool, true, false, ◌&&◌, List, ◌++◌, map, length, get_or, replicate, eqb, leb, ltb, bit_and, refl, sym, ap, ◌∙◌, arith, w8}
@@ -27,9 +27,9 @@ half b = b / 0x10 * 0x10
 abbrev tells_at : (high low next : List ℕ) → (ℕ → ℕ → ℕ) → ℕ → Bool
 tells_at high low next tells i = eqb (table_bits high low next (i / 0x10) (i % 0x10 * 0x10)) (tells (i / 0x10) (i % 0x10 * 0x10))
 
-pub told_alike : (high low next : List ℕ) (tells : ℕ → ℕ → ℕ) → agree_below (tells_at high low next tells) (λ _. true) 0x1000 ≡ true →
+pub bits_by_halves : (high low next : List ℕ) (tells : ℕ → ℕ → ℕ) → agree_below (tells_at high low next tells) (λ _. true) 0x1000 ≡ true →
     ((a b : ℕ) → tells a (half b) ≡ tells a b) → (a b : ℕ) → a < 0x100 → b < 0x100 → table_bits high low next a b ≡ tells a b
-told_alike high low next tells agree by_half a b ha hb =
+bits_by_halves high low next tells agree by_half a b ha hb =
     let n = b / 0x10 in
     let i = a * 0x10 + n in
     let e0 : i / 0x10 ≡ a = omega arith in
@@ -97,8 +97,8 @@ abbrev shr : ℕ → ℕ → ℕ
 shr a b = a / 2 ^ b
 
 -- Three look-ups give the bits that the entries for each pair of bytes have in common.
-pub told_are : (by_high by_low by_next first second : List ℕ) → length first ≡ 32 → length second ≡ 32 →
+pub table_bits_are : (by_high by_low by_next first second : List ℕ) → length first ≡ 32 → length second ≡ 32 →
     zip2 bit_and (zip2 bit_and (map (λ lane. get_or by_high (lane % 16) 0) (zip2 shr first (replicate 32 4)))
     (map (λ lane. get_or by_low (lane % 16) 0) first)) (map (λ lane. get_or by_next (lane % 16) 0) (zip2 shr second (replicate 32 4)))
     ≡ zip2 (table_bits by_high by_low by_next) first second
-told_are by_high by_low by_next first second long long_second = rw (lanes_are first long, lanes_are second long_second) refl
+table_bits_are by_high by_low by_next first second long long_second = rw (lanes_are first long, lanes_are second long_second) refl

@@ -73,25 +73,25 @@ second_alike g alike (x ∷ xs) (y ∷ ys) (v ∷ vs) long = (λ i. alike x y v 
 
 -- The class that a block's bytes are required to have does not depend on earlier bytes that the set
 -- does not need.
-wanted_by_needed : (s : CharacterSet) (window : List ℕ) (at : ℕ) (block : Block) → IsBlockAt s window at block → length block.four_before ≡ 32 → length block.three_before ≡ 32 →
+required_by_needed : (s : CharacterSet) (window : List ℕ) (at : ℕ) (block : Block) → IsBlockAt s window at block → length block.four_before ≡ 32 → length block.three_before ≡ 32 →
     zip2 (required_class s) block.four_before block.three_before ≡ zip2 (required_class s) (chunk at 32 window) (chunk (at + 1) 32 window)
-wanted_by_needed Encoded window at block is long_four long_three = rw (is.four_before refl, is.three_before refl) refl
-wanted_by_needed Unchanged window at block is long_four long_three =
+required_by_needed Encoded window at block is long_four long_three = rw (is.four_before refl, is.three_before refl) refl
+required_by_needed Unchanged window at block is long_four long_three =
     first_alike (required_class Unchanged) (λ a c b. refl) block.four_before (chunk at 32 window) block.three_before (long_four ∙ sym (length-chunk at 32 window (omega (arith, is.room))))
     ∙ second_alike (required_class Unchanged) (λ a b d. refl) (chunk at 32 window) block.three_before (chunk (at + 1) 32 window)
     (long_three ∙ sym (length-chunk (at + 1) 32 window (omega (arith, is.room))))
 
 -- The vectors of a block give the error mask: the bytes that cannot follow the bytes before them.
-pub misplaced_are : (s : CharacterSet) (f : Flavor) (window : List ℕ) (at : ℕ) (block : Block) → IsBlockAt s window at block →
+pub error_mask_is : (s : CharacterSet) (f : Flavor) (window : List ℕ) (at : ℕ) (block : Block) → IsBlockAt s window at block →
     length block.four_before ≡ 32 → length block.three_before ≡ 32 → (here want : List ℕ) → here ≡ zip2 (pair_class s f) block.one_before block.bytes →
     want ≡ zip2 (λ want d. want d) (zip2 (required_class s) block.four_before block.three_before) block.two_before →
     sel_l (map (top 7) (zip2 (λ a b. ones (eqb a b)) here want)) (replicate 32 0) (replicate 32 0xFF)
     ≡ map (λ i. mask (not (follows_at s f window i))) (range_with_len at 32)
-misplaced_are s f window at block is long_four long_three here want here_is by_bytes =
+error_mask_is s f window at block is long_four long_three here want here_is by_bytes =
     rw (
       here_is,
       by_bytes,
-      wanted_by_needed s window at block is long_four long_three,
+      required_by_needed s window at block is long_four long_three,
       sym (pick_l-range_with_len 0 window at 32 (omega (arith, is.room))),
       loaded window at 1 32 (omega (arith, is.room)),
       is.two_before ∙ loaded window at 2 32 (omega (arith, is.room)),
@@ -118,9 +118,9 @@ marked_at f window at room lanes lanes_are =
 
 -- If no lane of the error mask is marked, each byte can follow the bytes before it.
 module _ (s : CharacterSet) (f : Flavor) (window : List ℕ) (at n : ℕ) where
-  pub none_misplaced : (lanes : List ℕ) → lanes ≡ map (λ i. mask (not (follows_at s f window i))) (range_with_len at n) →
+  pub no_error : (lanes : List ℕ) → lanes ≡ map (λ i. mask (not (follows_at s f window i))) (range_with_len at n) →
       mask_l (map (leb 0x80) lanes) ≡ 0 → AllFollow s f window at n
-  none_misplaced lanes lanes_are none i low inside =
+  no_error lanes lanes_are none i low inside =
       not-false _ (no_lane (λ i. not (follows_at s f window i)) at n (sym (ap mask_l (marks_are _ lanes (range_with_len at n) lanes_are)) ∙ none) i low inside)
 
   -- If no lane is marked as other than a character of one byte, all bytes are ASCII and no null.
@@ -201,22 +201,22 @@ pub follows_agrees : (s : CharacterSet) (f : Flavor) (a b : List ℕ) (i j : ℕ
 follows_agrees s f a b i j agree = grind (arith, nat_tests, add-zero)
 
 -- Byte i is byte i + 4 after the four zeros.
-pub behind_fillers : (bytes : List ℕ) (i : ℕ) → get_or (after_fillers bytes) (i + 4) 0 ≡ get_or bytes i 0
-behind_fillers bytes i = grind (arith, nat_tests)
+pub after_the_fillers : (bytes : List ℕ) (i : ℕ) → get_or (after_fillers bytes) (i + 4) 0 ≡ get_or bytes i 0
+after_the_fillers bytes i = grind (arith, nat_tests)
 
 -- Whether a byte can follow is the same in the bytes and after the four zeros.
-pub follows_behind : (s : CharacterSet) (f : Flavor) (bytes : List ℕ) (i : ℕ) → follows_at s f (after_fillers bytes) (i + 4) ≡ follows_at s f bytes i
-follows_behind s f bytes i = grind (arith, nat_tests, follows_agrees, behind_fillers)
+pub follows_after : (s : CharacterSet) (f : Flavor) (bytes : List ℕ) (i : ℕ) → follows_at s f (after_fillers bytes) (i + 4) ≡ follows_at s f bytes i
+follows_after s f bytes i = grind (arith, nat_tests, follows_agrees, after_the_fillers)
 
 -- ---- a prefix
 
 -- Bytes of a block that can follow the bytes before them can also follow them after the four zeros.
-pub follow_behind : (s : CharacterSet) (f : Flavor) (bytes : List ℕ) (at n : ℕ) → AllFollow s f bytes at n →
+pub follow_after : (s : CharacterSet) (f : Flavor) (bytes : List ℕ) (at n : ℕ) → AllFollow s f bytes at n →
     (i : ℕ) → at + 4 ≤ i → i < at + n + 4 → follows_at s f (after_fillers bytes) i ≡ true
-follow_behind s f bytes at n each i low inside =
+follow_after s f bytes at n each i low inside =
     let place : i - 4 + 4 ≡ i = omega arith in
     subst (λ k. follows_at s f (after_fillers bytes) k ≡ true) place
-    (follows_behind s f bytes (i - 4) ∙ each (i - 4) (omega arith) (omega arith))
+    (follows_after s f bytes (i - 4) ∙ each (i - 4) (omega arith) (omega arith))
 
 -- If the bytes up to the start of a block can follow each other, and those of the block can, the
 -- bytes up to its end can.
@@ -225,15 +225,15 @@ pub follow_up_to : (s : CharacterSet) (f : Flavor) (bytes : List ℕ) (start at 
 follow_up_to s f bytes start at n before near room each = record {
   within = room;
   follow = λ i inside.
-      ⊎_elim (λ (first : i < start). before.follow i first) (λ (later : start ≤ i). follow_behind s f bytes at n each i (omega arith) inside) (cases_lt i start);
+      ⊎_elim (λ (first : i < start). before.follow i first) (λ (later : start ≤ i). follow_after s f bytes at n each i (omega arith) inside) (cases_lt i start);
 }
 
 -- If the next byte cannot follow, the prefix of bytes that can ends there.
-pub stop_behind : (s : CharacterSet) (f : Flavor) (bytes : List ℕ) (start at n : ℕ) → FirstFollow s f bytes start → at + 4 ≤ start →
+pub stop_after : (s : CharacterSet) (f : Flavor) (bytes : List ℕ) (start at n : ℕ) → FirstFollow s f bytes start → at + 4 ≤ start →
     at + n + 4 ≤ length bytes → AllFollow s f bytes at n → (at + n + 4 < length bytes → follows_at s f bytes (at + n) ≡ false) → FollowUpTo s f bytes (at + n + 4)
-stop_behind s f bytes start at n before near room each stops = record {
+stop_after s f bytes start at n before near room each stops = record {
   first = follow_up_to s f bytes start at n before near room each;
-  stops = λ more. follows_behind s f bytes (at + n) ∙ stops more;
+  stops = λ more. follows_after s f bytes (at + n) ∙ stops more;
 }
 
 -- Whether a byte of a prefix can follow does not depend on the bytes after the prefix.
@@ -269,13 +269,13 @@ ones_follow s f bytes n fits ones = record {
   follow = λ k before.
       let w = get_or (after_fillers bytes) in
       let last = ones k before in
-      let is_last : get_or (after_fillers bytes) (k + 4) 0 ≡ get_or bytes k 0 = behind_fillers bytes k in
+      let is_last : get_or (after_fillers bytes) (k + 4) 0 ≡ get_or bytes k 0 = after_the_fillers bytes k in
       ascii_fits s f (w k 0) (w (k + 1) 0) (w (k + 2) 0) (w (k + 3) 0) (w (k + 4) 0) (low k (omega (arith, before))) (low (k + 1) (omega (arith, before))) (low (k + 2) (omega (arith, before)))
       (low (k + 3) (omega (arith, before))) (omega (arith, is_last, last.0)) (ap (is_null f) is_last ∙ last.1);
 }
   where
     low : (k : ℕ) → k < n + 4 → get_or (after_fillers bytes) k 0 < 0x80
     low k before =
-        let behind = behind_fillers bytes (k - 4) in
+        let behind = after_the_fillers bytes (k - 4) in
         ⊎_elim (λ (near : k < 4). ltb-true _ 0x80 (agree_below_at (λ k. ltb (get_or (after_fillers bytes) k 0) 0x80) (λ _. true) 4 k refl near))
         (λ (far : 4 ≤ k). let there : k - 4 + 4 ≡ k = omega arith in grind arith) (cases_lt k 4)

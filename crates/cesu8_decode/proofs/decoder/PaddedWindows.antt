@@ -15,7 +15,7 @@ use Rattle.cesu8_decode.specs.declared.lanes.windows.Window.{Window}
 use Rattle.cesu8_decode.proofs.by_offset.WindowOffsets.{width_agrees, ill_formed_agrees, boundary_agrees}
 use Rattle.cesu8_decode.proofs.decoder.BlocksInPlace.{windows_alike}
 use Rattle.cesu8_decode.proofs.decoder.FormMasks.{map_alike}
-use Rattle.cesu8_decode.proofs.decoder.MaskBits.{and_bits, without_bits, no_bits, told_by, dropped, marks_from, bits_from, no_marks}
+use Rattle.cesu8_decode.proofs.decoder.MaskBits.{and_bits, without_bits, no_bits, by_equal_test, dropped, marks_from, bits_from, no_marks}
 use Rattle.cesu8_decode.proofs.decoder.MaskTests.{pair_alone, pair_width, no_null_of}
 use Rattle.cesu8_decode.proofs.by_offset.CharacterBoundaries.{boundary_at_zero}
 use Rattle.cesu8_decode.proofs.decoder.WindowEnds.{ends_at_zero}
@@ -91,7 +91,7 @@ module _ (f : Flavor) (bytes : List ℕ) (changed : ℕ) (given : AreChanges f b
   -- In MUTF-8, those of these characters that begin with C0 are C0 80.
   pub nulls_of_changed : (lanes : List ℕ) (c0 : ℕ) → ((i : ℕ) → i < n → get_or lanes i 0 ≡ get_or bytes i 0) → HasBits c0 (λ i. eqb (get_or lanes i 0) 0xC0) →
       HasBits (bit_and changed c0) (λ i. ltb i n && is_null_at f bytes (0 + i))
-  nulls_of_changed lanes c0 alike of_c0 = told_by (λ i. ltb i n && is_null_at f bytes (0 + i)) tested (and_bits of_changed of_c0)
+  nulls_of_changed lanes c0 alike of_c0 = by_equal_test (λ i. ltb i n && is_null_at f bytes (0 + i)) tested (and_bits of_changed of_c0)
     where
       tested : (i : ℕ) → ((ltb i n && is_changed_at f bytes (0 + i)) && eqb (get_or lanes i 0) 0xC0) ≡ (ltb i n && is_null_at f bytes (0 + i))
       tested i =
@@ -107,7 +107,7 @@ module _ (f : Flavor) (bytes : List ℕ) (changed : ℕ) (given : AreChanges f b
 
   -- CESU-8 has no C0 80.
   pub no_nulls_of_changed : (f ≡ Mutf8 → ⊥) → HasBits 0 (λ i. ltb i n && is_null_at f bytes (0 + i))
-  no_nulls_of_changed other = grind (arith, nat_tests, told_by, no_null_of, dropped, no_bits)
+  no_nulls_of_changed other = grind (arith, nat_tests, by_equal_test, no_null_of, dropped, no_bits)
 
   -- The others are surrogate pairs, and no byte of the window is ill-formed.
   pub changed_is_window : (nulls : ℕ) → n ≤ 64 → changed < 2 ^ 64 → nulls < 2 ^ 64 → HasBits nulls (λ i. ltb i n && is_null_at f bytes (0 + i)) →
@@ -116,7 +116,7 @@ module _ (f : Flavor) (bytes : List ℕ) (changed : ℕ) (given : AreChanges f b
     n = n;
     few = few;
     ill_formed = no_marks (is_ill_formed_at f (window_of bytes)) 0 n (λ i inside. given.whole (0 + i) (omega (arith, inside)));
-    pairs = marks_from (is_pair_at f bytes) 0 n (told_by (λ i. ltb i n && is_pair_at f bytes (0 + i))
+    pairs = marks_from (is_pair_at f bytes) 0 n (by_equal_test (λ i. ltb i n && is_pair_at f bytes (0 + i))
         (λ i. pairs_among (ltb i n) (is_pair_at f bytes (0 + i)) (is_null_at f bytes (0 + i)) (pair_not_null f bytes (0 + i)))
         (without_bits changed_fits nulls_fit of_changed of_nulls));
     nulls = marks_from (is_null_at f bytes) 0 n of_nulls;

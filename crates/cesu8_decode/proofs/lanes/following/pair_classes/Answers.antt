@@ -4,7 +4,7 @@ use Rattle.std.proofs.Common.{◌≡◌}
 use Rattle.std.proofs.lemmas.Bool.{iff_false}
 use Rattle.cesu8_text.specs.Encoding.{Cesu8, Mutf8}
 use Rattle.cesu8_decode.proofs.decoder.FollowingLanes.{cesu8_unless, cesu8_lanes, mutf8_lanes}
-use Rattle.cesu8_decode.proofs.lanes.following.shown_by.Goals as goal
+use Rattle.cesu8_decode.proofs.lanes.following.pair_classes.Goals as goal
 
 pub returns-then-has_long_null : goal.returns-then-has_long_null
 returns-then-has_long_null g c =
