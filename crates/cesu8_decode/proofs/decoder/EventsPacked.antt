@@ -16,7 +16,7 @@ use Rattle.cesu8_bytes.proofs.lists.Stored.{first_written, written_behind}
 use Rattle.cesu8_bytes.proofs.vectors.Loads.{loaded}
 use Rattle.std.proofs.Math.Nat.{div-le_self}
 use Rattle.cesu8_text.specs.Encoding.{Flavor}
-use Rattle.cesu8_decode.specs.DecodedOffsets.{window_of, is_boundary_at, is_ill_formed_at, decoded_at, decoded}
+use Rattle.cesu8_decode.specs.DecodedOffsets.{window_of, is_ill_formed_at, decoded_at, decoded}
 use Rattle.cesu8_decode.specs.Masks.{HoldWindow, IsWindow, is_null_at, is_pair_at}
 use Rattle.cesu8_decode.specs.declared.lanes.windows.Window.{Window}
 use Rattle.cesu8_decode.proofs.by_offset.WindowOffsets.{decoded_split}
