@@ -30,6 +30,19 @@ used_by() {
     done
 }
 
+# Whether a crate is a program, or a library that only programs use. No other crate needs a proof of it, so its
+# edits are tried without one.
+is_of_programs() {
+    local user is_used=''
+    [[ ! -e crates/$1/src/main.rt ]] || return 0
+    for user in $(listed_crates); do
+        grep -qxF "$1" <(used_by "$user") || continue
+        [[ -e crates/$user/src/main.rt ]] || return 1
+        is_used=yes
+    done
+    [[ -n $is_used ]]
+}
+
 # Tries the edits of crates, so many crates at once, and prints for each edit a line `edit CRATE/NAME:
 # refused: WHY`, or `not refused`: `try_edits AT_ONCE CRATE..`.
 try_edits() {
@@ -64,13 +77,13 @@ try_crate() {
     note_seconds "$crate: edits"
 }
 
-# Whether what a crate uses is proved, and the crate itself where it is a library.
+# Whether what a crate uses is proved, and the crate itself if a proof of it is needed.
 is_ready() {
     local name
     for name in $(used_by "$1"); do
         [[ -e $scratch/proved/$name ]] || return 1
     done
-    [[ -e crates/$1/src/main.rt || -e $scratch/proved/$1 ]]
+    is_of_programs "$1" || [[ -e $scratch/proved/$1 ]]
 }
 
 # Makes a tree in which a crate is checked over the proved libraries, with what was kept of its own proof:

@@ -70,7 +70,7 @@ choose_crates() {
             differing+=("$crate")
         elif ! is_above "$crate"; then
             continue
-        elif [[ -d crates/$crate/specs || $crate == cesu8_cli ]]; then
+        elif [[ -d crates/$crate/specs || $crate == cesu8_cli || $crate == cesu8conv ]]; then
             above+=("$crate")
         fi
         if grep -rqF '#[test]' "crates/$crate/src"; then
