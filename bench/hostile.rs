@@ -12,7 +12,8 @@ const LENGTHS: [usize; 5] = [24, 72, 200, 1_024, 16_380];
 /// The total length of the inputs of one kind and length; a longer input is the only one.
 const BYTES: usize = 1 << 15;
 
-/// Some kinds are also measured at this length, with a part of `LONG_PART` bytes that is repeated.
+/// Some kinds are also measured at about this length: a part of `LONG_PART` bytes is repeated as often as
+/// it fits.
 const LONG: usize = 16_777_212;
 const LONG_PART: usize = 16_380;
 

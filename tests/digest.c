@@ -141,6 +141,7 @@ static void call_in_turn(const uint8_t *input, size_t length, uint8_t *buffer)
 }
 
 // Makes the calls on a text of this length, with faults at each offset, the last of them after the text.
+// By `turn` the faults and the addresses of a text differ from those of another one.
 static void look_at(size_t length, struct piece text, size_t turn)
 {
     static _Alignas(64) uint8_t input_room[ROOM], buffer_room[ROOM];

@@ -103,10 +103,12 @@ public class Peer {
     /** The bytes of CONSTANT in the constant pool of a class file, their count included. */
     private static byte[] constant(byte[] file) throws IOException {
         DataInputStream in = new DataInputStream(new ByteArrayInputStream(file));
+        // The magic number and the version of the format.
         in.skipBytes(8);
         int entries = in.readUnsignedShort();
         for (int entry = 1; entry < entries; entry++) {
             int tag = in.readUnsignedByte();
+            // Tag 1 is a string's bytes, which readUTF reads.
             if (tag == 1) {
                 int start = file.length - in.available();
                 if (in.readUTF().equals(CONSTANT)) {

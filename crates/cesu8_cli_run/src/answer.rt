@@ -1,4 +1,5 @@
-//! Computes the whole output of a command from the whole input.
+//! Computes the whole output of a command from the whole input. Each command has a function here,
+//! which calls `simd_cesu8` or `java_text`.
 
 ghost use Rattle.std.specs.Prelude.{◌≡◌, ◌≢◌, ◌⊎◌, [], IsTrue, IsUtf8, IfOk, IfErr, Ok, Err};
 ghost use Rattle.std.specs.Str.{chars};
@@ -45,6 +46,8 @@ fn encode(alloc: Global, flavor: FlavorWord, input: &[u8]) -> Result<CowBytes<'_
     ensures memory { TakesNoMemory (Command.Encode flavor) input.now
         → result ≢ Err RunFault.Memory }
 {
+    // For the clause `memory`: a string in which no byte changes needs no encoding, so it is
+    // borrowed.
     laws::unchanged();
     let text = input_text(input)?;
     match flavor {

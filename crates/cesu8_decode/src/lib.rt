@@ -8,7 +8,8 @@
 //!
 //! The modules, in the order in which a call uses them:
 //!
-//! - `modes`: the modes, lenient and encoding alone
+//! - `modes`: whether a call returns its input unchanged: if it is UTF-8 (mode `Lenient`), or only
+//!   if it is UTF-8 in which nothing needs conversion (mode `EncodingAlone`)
 //! - `lanes`: vector code for 32 or 64 bytes, with no branch on a single byte
 //! - `prefix`: the length of the prefix of whole characters that are unchanged in UTF-8; decoding
 //!   begins with this test

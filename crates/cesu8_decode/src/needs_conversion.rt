@@ -1,5 +1,6 @@
 //! Tests whether bytes begin with a character that needs conversion to UTF-8: a surrogate pair, or
-//! C0 80 in MUTF-8.
+//! C0 80 in MUTF-8. Strict decoding tests this after the unchanged prefix: the byte there is
+//! ill-formed if no such character begins.
 
 ghost use Rattle.std.specs.Prelude.{◌≡◌, ◌↔◌, ◌≤◌, ℕ, List, length, replicate, slice_index, IsTrue};
 ghost use Rattle.cesu8_text.specs.Encoding.{Flavor as AnyFlavor};
@@ -10,7 +11,8 @@ use cesu8_bytes::lanes::short::copy_short;
 use cesu8_bytes::pairs::{PAIR_READ, is_pair};
 
 /// Returns whether a byte can be the first one of a character that needs conversion, in either
-/// encoding: ED or C0. `strings` rejects other bytes by this test alone.
+/// encoding: ED or C0. If another byte follows the unchanged prefix, `write_strictly` of
+/// `destinations::strings` returns the error at once.
 #[inline(always)]
 pub fn may_lead_changed(byte: u8) -> bool
     ensures { (f : AnyFlavor) (bytes : List ℕ) → BeginsChanged f bytes
@@ -36,7 +38,8 @@ pub fn changes<F: Flavor>(bytes: &[u8]) -> bool
     is_pair(bytes) || F::has_long_null() && bytes[0] == 0xC0 && bytes[1] == 0x80
 }
 
-/// Returns the first eight bytes. If there are fewer, returns a copy that is padded with zeros.
+/// Returns the first eight bytes, which `is_pair` loads as one word. If there are fewer, returns a
+/// copy that is padded with zeros.
 #[inline(always)]
 pub fn first_eight<'a>(bytes: &'a [u8], padded: &'a mut [u8; PAIR_READ]) -> &'a [u8]
     requires { padded.old ≡ replicate PAIR_READ 0 }

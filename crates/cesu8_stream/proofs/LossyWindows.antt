@@ -1,4 +1,5 @@
--- What the lossy decoder reads by windows.
+-- What the lossy decoder reads by windows. `ReadsOn` says that a call has read n bytes and written w
+-- bytes of UTF-8, and that what follows is read by itself.
 use Rattle.std.proofs.Common.{◌≡◌, ℕ, List, [], ◌++◌, Bool, false, refl, sym, ap, ◌∙◌, take, drop, append_assoc}
 use Rattle.std.proofs.lemmas.List.{take-append-drop}
 use Rattle.simd_cesu8.specs.Text.{IsText, utf8}
@@ -16,7 +17,8 @@ parts_read split f first others none =
     (split f first others).1 (λ i c stands low.
     none i c low (record { scalar = stands.1.scalar; rest = stands.0; bytes_are = stands.1.bytes_are }))
 
--- A window was read.
+-- If the first n bytes are read as a text whatever follows them, and its UTF-8 is at the front of
+-- the buffer, a call has read these n bytes.
 pub window_read : (reading : List ℕ → List ℕ) (bytes old new : List ℕ) (n w : ℕ) → IsText (reading (take n bytes)) →
     ((more : List ℕ) →
     reading (take n bytes ++ (drop n bytes ++ more)) ≡ reading (take n bytes) ++ reading (drop n bytes ++ more)) →
@@ -30,11 +32,11 @@ window_read reading bytes old new n w is_text parts written = (
       ∙ parts more),
 )
 
--- Nothing was.
+-- `ReadsOn` holds of no bytes, if the buffer is unchanged.
 pub nothing_read_on : (reading : List ℕ → List ℕ) (bytes old new : List ℕ) → new ≡ old → ReadsOn reading false bytes 0 0 old new
 nothing_read_on reading bytes old new same = ([], tt, (refl, same), (λ more _. refl))
 
--- What is read whatever follows is read also if nothing follows.
+-- What is read whatever follows is also read if nothing follows, as after the last piece.
 pub read_whatever : (reading : List ℕ → List ℕ) (is_last : Bool) (bytes old new : List ℕ) (n w : ℕ) →
     ReadsOn reading false bytes n w old new → ReadsOn reading is_last bytes n w old new
 read_whatever reading is_last bytes old new n w reads =

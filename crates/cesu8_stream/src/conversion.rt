@@ -28,16 +28,18 @@ pub trait Conversion {
     /// The most bytes that a character has in the output.
     ghost widest: { ℕ };
 
-    /// The bytes of the characters that `completions` returns.
+    /// The bytes of the two characters that `completions` returns, each padded with zeros to six.
     ghost first_completion: { List ℕ };
 
     ghost second_completion: { List ℕ };
 
-    /// Returns how many bytes of input have no more bytes than this in the output.
+    /// Returns how many bytes of input have at most `len` bytes in the output. The clause does not
+    /// say this: it is for speed alone, since `write` fails if the buffer is too short.
     fn surely_fit(len: usize) -> usize
         ensures { result ≤ len };
 
-    /// Returns how many bytes at the start are whole characters.
+    /// Returns how many bytes at the start are whole characters, up to an offset at which none
+    /// begins.
     fn valid_up_to(bytes: &[u8]) -> usize
         ensures within { result ≤ length bytes.now }
         ensures valid { (text : List ℕ) × IsWritten from (take result bytes.now) text }
@@ -59,7 +61,9 @@ pub trait Conversion {
         ensures first { result.0 ≡ first_completion }
         ensures second { result.1 ≡ second_completion };
 
-    /// What is known of both ways of writing.
+    /// What is known of both ways of writing: each writes a text character by character. Bytes
+    /// begin with at most one character of `from`, and the two completions suffice for each
+    /// truncated one.
     fn laws()
         ensures append_from { (s t : List ℕ) → from (s ++ t) ≡ from s ++ from t }
         ensures append_to { (s t : List ℕ) → to (s ++ t) ≡ to s ++ to t }
@@ -153,7 +157,8 @@ impl<E: Encoding> Conversion for ToEncoding<E> {
         }
     }
 
-    /// U+100000, and U+20000, whose second byte may follow E0 and F0 too.
+    /// U+100000, and U+20000. The second byte of U+100000 may follow every lead byte of UTF-8 but
+    /// E0 and F0, and that of U+20000 may follow these two.
     fn completions() -> ([u8; 6], [u8; 6]) {
         (
             [0xF4, 0x80, 0x80, 0x80, 0, 0],

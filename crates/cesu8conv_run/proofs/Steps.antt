@@ -1,6 +1,8 @@
 -- Each kind of step keeps the promise `IsStep`: a call of `cesu8_stream`, UTF-8 that is passed
 -- through, a step that reads nothing, and one that replaces a byte. "Mixed" text has each character
--- in the encoding or in UTF-8 (`IsMixed`).
+-- in the encoding or in UTF-8 (`IsMixed`). The proofs of `step.rt` cite these lemmas. `Around`,
+-- `Places` and `HasGreedyCutting` are laws of `simd_cesu8`, which `step.rt` gets from calls of
+-- `laws`.
 use Rattle.std.proofs.Common.{◌≡◌, ◌≢◌, ℕ, ◌+◌, ◌<◌, ◌≤◌, Bool, true, false, List, [], ◌∷◌, ◌++◌, length, take, drop, refl, sym, ap, ◌∙◌, inl, inr, arith, length-take, length-append}
 use Rattle.std.proofs.lemmas.List.{append-nil, take-append-drop, take-take, drop-take, drop_all, take_at}
 use Rattle.std.specs.Str.{chars, IsUtf8}
@@ -86,10 +88,12 @@ part-may-be-replaced (Encoded text) h = h
 part-may-be-replaced (InUtf8 text) h = h
 part-may-be-replaced (Replaced byte) h = tt
 
+-- The strict conditions of all parts imply those of mixed text in which bytes may be replaced.
 pub parts-may-be-replaced : (parts : List Part) → AreParts false parts → AreParts true parts
 parts-may-be-replaced [] h = tt
 parts-may-be-replaced (part ∷ parts) h = (part-may-be-replaced part h.0, parts-may-be-replaced parts h.1)
 
+-- A strict conversion is also a conversion of mixed text.
 pub mixed-of-decoded : (w : FlavorWord) (is_last : Bool) (a ahead x : List ℕ) → Converts (Decode w) is_last a ahead x →
     Converts (Mixed w) is_last a ahead x
 mixed-of-decoded w is_last a ahead x h = record {
@@ -107,6 +111,7 @@ mixed-may-be-replaced f bytes text h = record {
   text_is = h.text_is;
 }
 
+-- A conversion of mixed text is also one that may replace bytes.
 pub mixed-lossy-of-mixed : (w : FlavorWord) (is_last : Bool) (a ahead x : List ℕ) → Converts (Mixed w) is_last a ahead x →
     Converts (MixedLossy w) is_last a ahead x
 mixed-lossy-of-mixed w is_last a ahead x h = record {
@@ -256,7 +261,7 @@ reading-of-damage places has f byte rest none =
     (rw same (λ c more begins. none c (record { scalar = begins.scalar; rest = more; bytes_are = begins.bytes_are })), cut.2))
     ∙ ap (λ x. 0xFFFD ∷ x) (places f rest cut.0 cut.1 cut.2)
 
--- Replacing a damaged byte by U+FFFD is a lossy conversion of this byte,
+-- Replacing a damaged byte by U+FFFD is a lossy conversion of this byte.
 pub lossy-replaces : Places → HasGreedyCutting → (w : FlavorWord) (is_last : Bool) (byte : ℕ) (rest : List ℕ) →
     IsDamagedAhead (Decode w) is_last (byte ∷ rest) →
     Converts (Lossy w) is_last (byte ∷ []) rest (0xEF ∷ 0xBF ∷ 0xBD ∷ [])
@@ -266,7 +271,7 @@ lossy-replaces places has w is_last byte rest damage = record {
   written_is = sym utf8-of-replacement;
 }
 
--- and a conversion of mixed text.
+-- Replacing a damaged byte by U+FFFD is also a conversion of mixed text that may replace bytes.
 pub mixed-replaces : (w : FlavorWord) (is_last : Bool) (byte : ℕ) (rest : List ℕ) →
     IsDamagedAhead (Mixed w) is_last (byte ∷ rest) →
     Converts (MixedLossy w) is_last (byte ∷ []) rest (0xEF ∷ 0xBF ∷ 0xBD ∷ [])

@@ -1,4 +1,6 @@
-//! The list of damage that the command `check` prints.
+//! The list of damage that the command `check` prints: a line for each stretch of bytes in no
+//! character. With tabs between, it has the name of the file if there are several, the offset, the
+//! number of the line, the number of bytes, and the first 16 bytes in hexadecimal.
 
 use crate::hex::Hex;
 use crate::inputs::line_ends;
@@ -50,7 +52,8 @@ impl<'a> Listing<'a> {
         })
     }
 
-    /// Prints the stretch that ends here, if there is one. No line ends within it.
+    /// Prints the stretch that ends here, if there is one. No line ends within it, as the end of a
+    /// line is a character, so `line` is still the line in which the stretch begins.
     fn end_stretch(&mut self) {
         if self.stretch.len == 0 {
             return;
@@ -109,7 +112,7 @@ impl Watch for Listing<'_> {
     }
 }
 
-/// A writer that keeps nothing.
+/// A writer that keeps nothing: `check` converts a file only to find the damage.
 #[derive(Drop)]
 pub struct Nowhere;
 

@@ -1,4 +1,6 @@
-//! Tests of the calls of `simd_cesu8` that decode. The expected values were not computed by them.
+//! Tests of the calls of `simd_cesu8` that decode. The expected values come from tables, or from
+//! the plain decoder of `test_cases`, which decodes one character at a time. The head of each
+//! module says what it tests.
 #![tactic(auto)]
 
 #[cfg(test)]

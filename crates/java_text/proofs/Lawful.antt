@@ -1,4 +1,5 @@
--- The laws of the form.
+-- The laws of the form of a Java string: two bytes that count the bytes of its MUTF-8, and then
+-- these. `specs/Laws.antt` has their statements, and the functions of `laws.rt` promise them.
 use Rattle.std.proofs.Common.{◌≡◌, ℕ, List, [], ◌∷◌, ◌++◌, refl, sym, ap, ◌∙◌, subst, arith, append-nil, append_assoc}
 use Rattle.std.specs.List.{flat_map}
 use Rattle.std.proofs.lemmas.Grind.{flat_map-append}

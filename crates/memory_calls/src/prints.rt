@@ -1,4 +1,5 @@
-//! How the result of a call is printed.
+//! How the result of a call is printed: its outcome on a line, and its bytes on the next. The bytes
+//! are printed as they are, since `tests/memory.sh` compares the output as a whole.
 
 use std::io;
 use std::io::Write;
@@ -27,6 +28,7 @@ pub fn print_length(rt: &HostRuntime, len: Option<usize>) -> io::Result<()> {
     }
 }
 
+/// Returns the outcome of a call that answers a question.
 pub fn yes_or_no(fact: bool) -> &'static str {
     if fact { "yes" } else { "no" }
 }

@@ -1,5 +1,6 @@
 -- Character boundaries: offsets that no encoded character crosses, by the widths at the five
--- offsets before.
+-- offsets before (`is_boundary_at`). Five are enough, since a character has at most six bytes. Each
+-- window of the decoder begins at such an offset.
 use Rattle.std.proofs.Common.{◌≡◌, ℕ, ◌+◌, ◌-◌, ◌<◌, ◌≤◌, ◌⊎◌, ⊎_elim, true, List, ◌∷◌, refl, ap, ◌∙◌, subst, arith, length, take, drop, get_or, zero-add, length-drop, eqb}
 use Rattle.std.proofs.lemmas.Bool.{agree_below_at, eqb-true, cases_lt}
 use Rattle.std.proofs.lemmas.List.{take-append-drop, length-take-le}
@@ -80,7 +81,7 @@ ends_before f window bytes p i follows before inside some =
     (λ (none : first_width f (drop p bytes) ≤ 0). omega arith)
     (cases_lt 0 (first_width f (drop p bytes)))
 
--- The end of the bytes is a boundary.
+-- The end of the bytes is a boundary, if their start is one.
 pub boundary_at_end : (f : Flavor) (window bytes : List ℕ) → Follows window bytes 5 → is_boundary_at f window 0 ≡ true →
     is_boundary_at f window (length bytes) ≡ true
 boundary_at_end f window bytes follows first =
@@ -96,13 +97,16 @@ boundary_at_end f window bytes follows first =
 
 -- ---- zeros
 
+-- If the second byte is less than 80 (hexadecimal), no character of two bytes or more begins.
 low_second : (f : Flavor) (a b d e g h : ℕ) → b < 0x80 → first_width_by f a b d e g h ≤ 1
 unfolding first_width_by
 low_second f a b d e g h low = grind (arith, nat_tests)
 
+-- The third byte of a character of three bytes is at least 80.
 three_later : (a b d : ℕ) → three_at a b d ≡ true → 0x80 ≤ d
 three_later a b d three = grind (arith, nat_tests)
 
+-- The last four bytes of a surrogate pair are at least 80.
 pair_later : (a b d e g h : ℕ) → pair_at a b d e g h ≡ true → (0x80 ≤ d) × (0x80 ≤ e) × (0x80 ≤ g) × (0x80 ≤ h)
 pair_later a b d e g h pair = grind (arith, nat_tests)
 
@@ -111,6 +115,8 @@ bytes_later : (f : Flavor) (a b d e g h : ℕ) → let w = first_width_by f a b 
     (2 ≤ w → 0x80 ≤ b) × (3 ≤ w → 0x80 ≤ d) × (4 ≤ w → 0x80 ≤ e) × (4 ≤ w → 0x80 ≤ g) × (4 ≤ w → 0x80 ≤ h)
 bytes_later f a b d e g h = grind (arith, nat_tests, width_tells, pair_later, low_second, three_later)
 
+-- Of the six bytes from a character's first on: if byte s is zero, the character has at most s
+-- bytes.
 zero_ends : (f : Flavor) (a b d e g h s : ℕ) → 0 < s → (s ≡ 1 → b ≡ 0) → (s ≡ 2 → d ≡ 0) → (s ≡ 3 → e ≡ 0) → (s ≡ 4 → g ≡ 0) → (s ≡ 5 → h ≡ 0) →
     first_width_by f a b d e g h ≤ s
 zero_ends f a b d e g h s some h1 h2 h3 h4 h5 = grind (arith, nat_tests, bytes_later, width_tells)

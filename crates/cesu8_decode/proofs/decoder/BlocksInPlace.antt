@@ -1,4 +1,6 @@
--- What is written window by window, and what has been decoded then.
+-- What is written window by window, and what has been decoded then. The first windows are read in
+-- place, and the last ones from a copy of the last bytes with zeros after them: both give the same
+-- text. `IsDecoded` says what has been written for n bytes, or that strict decoding rejects one.
 use Rattle.std.proofs.lemmas.Bool.Decides.{nat_tests}
 use Rattle.std.proofs.lemmas.Grind.{common_steps}
 use Rattle.std.proofs.Common.{◌≡◌, ℕ, zero, suc, ◌+◌, ◌-◌, ◌<◌, ◌≤◌, ◌⊎◌, Bool, true, false, true≢false, List, [], ◌++◌, refl, sym, ap, ◌∙◌, arith, get_or, length, drop, replicate, zero-add, append_assoc}
@@ -25,11 +27,12 @@ use Rattle.cesu8_decode.proofs.by_offset.CharacterBoundaries.{boundary_of_zeros,
 
 -- ---- lengths
 
--- What is written for an offset is at most one byte, or the three of the replacement character.
+-- For a byte that is not ill-formed, at most one byte is written.
 pub one_or_none : (goes : Bool) (b : ℕ) → length (written_for goes false b) ≤ 1
 one_or_none true b = omega arith
 one_or_none false b = omega arith
 
+-- For any byte, at most the three bytes of U+FFFD are written.
 pub at_most_three : (goes ill_formed : Bool) (b : ℕ) → length (written_for goes ill_formed b) ≤ 3
 at_most_three goes ill_formed b = grind (arith, nat_tests, common_steps)
 
@@ -93,7 +96,8 @@ pub more_decoded : (f : Flavor) (which : Strictness) (window before old text : L
     IsDecoded f which window 0 (at + n) before text is_refused
 more_decoded f which window before old text at n is_refused first next = grind (arith, nat_tests, more_written, cases_lt)
 
--- What is written for n bytes depends on ten bytes more.
+-- What is written for n bytes depends on ten bytes more: the five before them and the five after
+-- them.
 pub decoded_in : (f : Flavor) (which : Strictness) (a b before text : List ℕ) (i j n : ℕ) (is_refused : Bool) → Agree a b i j (n + 10) →
     IsDecoded f which a i n before text is_refused → IsDecoded f which b j n before text is_refused
 decoded_in f which a b before text i j n is_refused agree is = record {
@@ -150,6 +154,7 @@ pub none_refused : (f : Flavor) (which : Strictness) (window old new : List ℕ)
 none_refused f Strict window old new at n is_refused is strict = strict refl
 none_refused f Lossy window old new at n is_refused is strict = is.lossy refl
 
+-- If it is not true that strict decoding rejects nothing, a byte was rejected.
 pub some_refused : (which : Strictness) (is_refused : Bool) → ¬ (which ≡ Strict → is_refused ≡ false) → is_refused ≡ true
 some_refused which true some = refl
 some_refused which false some = absurd (some (λ _. refl))

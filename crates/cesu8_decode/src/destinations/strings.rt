@@ -38,6 +38,9 @@ pub fn write_strictly<F: Flavor>(
     requires empty { (empty.items ≡ []) × (length bytes.now ≤ vec_capacity empty) }
     ensures { AppendsReading F.flavor Strict bytes.now empty result }
 {
+    // The prefix is not all of the bytes. So a character that needs conversion follows it, or else
+    // a byte is ill-formed. Of at most 64 bytes the mask `changed` is 0 exactly if one is
+    // ill-formed.
     if are_few(bytes) {
         if prefix.changed == 0 {
             return Err(NoText);

@@ -21,6 +21,7 @@ in_block s f bytes n long inside follow stops =
       stops = λ more. subst (λ k. follows_at s f (after_fillers (take 32 bytes)) k ≡ false) here (stops (omega (arith, more, whole)));
     }
 
+-- If the first block has an error, the first byte in it that cannot follow is returned.
 pub returns-then-len-ne-BLOCK : goal.returns-then-len-ne-BLOCK
 returns-then-len-ne-BLOCK g c =
     let s = g.S.CharacterSet.set in
@@ -33,6 +34,9 @@ returns-then-len-ne-BLOCK g c =
     stop_in_front s f bytes 32 c.following_len-len.result (omega (arith, c.requires)) (omega (arith, c.if-len-ne-BLOCK.true, within))
     (in_block s f bytes _ (omega (arith, c.requires)) within (len.follow window 0 is) (len.stops window 0 is))
 
+-- Otherwise `following_from` starts after the first block or after the skipped ASCII, and the bytes
+-- before its start can follow each other. The start is `run.max(BLOCK)`, as groups that are skipped
+-- are not shorter than a block.
 pub following_from-requires-clause-first : goal.following_from-requires-clause-first
 following_from-requires-clause-first g c =
     let s = g.S.CharacterSet.set in

@@ -23,6 +23,7 @@ none_cut : (s : CharacterSet) (f : Flavor) (bytes : List ℕ) (at : ℕ) → Fol
 none_cut s f bytes at up_to none last second =
     prefix_at s f bytes at at up_to (omega arith) (rw (lt-leb 0xC0 _ last, lt-leb 0xE0 _ second, none) refl) (λ k past inside. absurd (omega (arith, past, inside)))
 
+-- No byte precedes `at`, so none is cut off.
 pub returns-then-at-eq0 : goal.returns-then-at-eq0
 returns-then-at-eq0 g c =
     let s = g.S.CharacterSet.set in
@@ -32,6 +33,7 @@ returns-then-at-eq0 g c =
     none_cut s g.F.Flavor.flavor bytes at c.requires (sym (ap (λ rule. rule.has_changed) c.rule.ensures) ∙ c.if-rule.false)
     (omega (arith, filler bytes (at + 3) (omega (arith, zero)))) (omega (arith, filler bytes (at + 2) (omega (arith, zero))))
 
+-- The last byte is a lead byte (C0 or more), whose character is cut off after one byte.
 pub returns-then-last-ge192 : goal.returns-then-last-ge192
 returns-then-last-ge192 g c =
     let s = g.S.CharacterSet.set in
@@ -42,6 +44,8 @@ returns-then-last-ge192 g c =
     cut_at s g.F.Flavor.flavor bytes at n (sym (ap (λ rule. rule.has_changed) c.rule.ensures) ∙ c.if-rule.false) c.requires (omega (arith, c.if-at-eq0.false)) high
     (λ k past inside. let here : k ≡ n + 1 = omega (arith, past, inside, c.if-at-eq0.false) in ap (crosses_at s (after_fillers bytes)) here ∙ crosses_next s bytes n high)
 
+-- The second last byte leads a character of three bytes (E0 or more), which is cut off after two.
+-- If only one byte precedes `at`, both tests load it, and the first one would have succeeded.
 pub returns-then-second-ge224 : goal.returns-then-second-ge224
 returns-then-second-ge224 g c =
     let s = g.S.CharacterSet.set in
@@ -59,6 +63,7 @@ returns-then-second-ge224 g c =
     (λ k past inside. ⊎_elim (λ (here : k ≡ n + 1). ap crosses here ∙ crosses_next s bytes n (omega (arith, high)))
     (λ other. let here : k ≡ n + 2 = omega (arith, other, past, inside, some) in ap crosses here ∙ crosses_second s bytes n high) (cases_eq k (n + 1)))
 
+-- Neither byte leads a character that is cut off.
 pub returns-else-second-ge224 : goal.returns-else-second-ge224
 returns-else-second-ge224 g c =
     let bytes = c.args.bytes.now in

@@ -32,6 +32,8 @@ loop-moved-preserved g c =
           c.laws.ensures.append_to c.loop-moved.invariant.moves moves);
     }
 
+-- The last step read nothing, so it left the buffer unchanged (`same`), and the next character, if
+-- there is one, does not fit (`stuck`).
 pub returns : goal.returns
 returns g c =
     let from = g.C.Conversion.from in

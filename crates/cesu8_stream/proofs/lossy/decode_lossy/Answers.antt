@@ -1,10 +1,12 @@
 -- A step is a strict call, and U+FFFD for the byte at which it stopped if that is damage. Steps
--- after one another are one step (`read_on`).
+-- after one another are one step (`read_on`). In each answer `facts` are the laws of the encoding,
+-- and `found` is what holds after the strict call of the round (`found_by`).
 use Rattle.std.proofs.Common.{sym, ◌∙◌, refl}
 use Rattle.cesu8_stream.proofs.LossyWindows.{read_whatever}
 use Rattle.cesu8_stream.proofs.LossyReadings.{IsReading, found_by, stopped, filled, replaces}
 use Rattle.cesu8_stream.proofs.lossy.decode_lossy.Goals as goal
 
+-- Before the first round, `decode_windows` has read whole windows, whatever follows them.
 pub loop-found-init : goal.loop-found-init
 loop-found-init g c =
     let first = c.decode_windows-first in
@@ -14,6 +16,7 @@ loop-found-init g c =
           first.result.written first.ensures.reads;
     }
 
+-- The strict call stopped for another reason than damage, which its state says.
 pub returns-then-not-is_damage : goal.returns-then-not-is_damage
 returns-then-not-is_damage g c =
     let laws = c.lossy_laws.ensures in
@@ -26,6 +29,7 @@ returns-then-not-is_damage g c =
     call.auto.buf call.ensures in
     stopped _ _ _ _ _ _ _ _ _ found (sym c.is_damage.ensures ∙ c.if-not-is_damage.true)
 
+-- The next byte is damage, and the buffer has no space for U+FFFD.
 pub returns-then-not-put_replacement : goal.returns-then-not-put_replacement
 returns-then-not-put_replacement g c =
     let laws = c.lossy_laws.ensures in
@@ -39,6 +43,7 @@ returns-then-not-put_replacement g c =
     filled _ _ _ _ _ _ c.put_replacement.new.buf _ _ _ found (sym c.is_damage.ensures ∙ c.if-not-is_damage.false)
     (c.if-not-put_replacement.ensures.full refl) (c.if-not-put_replacement.ensures.unchanged refl)
 
+-- The next byte was replaced by U+FFFD.
 pub loop-found-preserved : goal.loop-found-preserved
 loop-found-preserved g c =
     let laws = c.lossy_laws.ensures in

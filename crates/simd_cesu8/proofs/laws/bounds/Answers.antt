@@ -1,5 +1,6 @@
--- Each character's form is at most twice as long as its UTF-8, and never shorter. A replaced byte
--- is three bytes in the text, and an encoded character no more than its form.
+-- Each character's encoding is at most twice as long as its UTF-8, and never shorter. In the UTF-8
+-- of lossily decoded text, a replaced byte is three bytes, and an encoded character is no longer
+-- than its encoding.
 use Rattle.cesu8_text.proofs.order.Lawful.{bounds_law}
 use Rattle.simd_cesu8.proofs.laws.bounds.Goals as goal
 

@@ -1,5 +1,6 @@
--- In each round the bytes of the window before `read` have been written up to `end`, and `events` has
--- the bits of the events that are left. The lowest bit is cleared in each round, so the number falls.
+-- Before each round the text of the window's bytes before `read` has been written up to `end`, and
+-- `events` has the bits of the events that are left. Each round clears the lowest bit, so the
+-- number falls.
 use Rattle.cesu8_decode.proofs.decoder.Events.{AreRead}
 use Rattle.cesu8_decode.proofs.pass.events.write_in_turn.Given as goal
 

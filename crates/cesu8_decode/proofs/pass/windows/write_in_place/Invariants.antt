@@ -1,5 +1,6 @@
 -- Before each round the pass has gone on from `before` to `pass`, window by window. Each round
--- reads at least one byte.
+-- reads at least one byte, even if strict decoding rejects its window. So a pass that has read
+-- nothing has rejected nothing (`fresh`), and `write_windows` reads something if a byte is left.
 use Rattle.std.proofs.Common.{◌≡◌, ◌-◌, false, length}
 use Rattle.cesu8_decode.specs.Decoding.{GoesOn}
 use Rattle.cesu8_decode.proofs.pass.windows.write_in_place.Given as goal
