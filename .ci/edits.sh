@@ -30,14 +30,14 @@ used_by() {
     done
 }
 
-# Whether a crate is a program, or a library that only programs use. No other crate needs a proof of it, so its
-# edits are tried without one.
+# Whether a crate is a program, or a library that only programs and crates of tests use. Nothing that is
+# proved in the copy `scripts` needs a proof of it, so its edits are tried without one.
 is_of_programs() {
     local user is_used=''
     [[ ! -e crates/$1/src/main.rt ]] || return 0
     for user in $(listed_crates); do
         grep -qxF "$1" <(used_by "$user") || continue
-        [[ -e crates/$user/src/main.rt ]] || return 1
+        [[ -e crates/$user/src/main.rt || $user == *_tests ]] || return 1
         is_used=yes
     done
     [[ -n $is_used ]]
