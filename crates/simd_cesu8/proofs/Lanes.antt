@@ -47,11 +47,11 @@ stored_again (suc size) (x ∷ xs) = ap (λ rest. x ∷ rest) (stored_again size
 
 -- Storing `size` bytes, of which only the first `len` differ from what is there, writes those `len`
 -- bytes alone.
-pub front_stored : (len size : ℕ) (bytes old : List ℕ) → len ≤ size → size ≤ length bytes → size ≤ length old →
+pub prefix_stored : (len size : ℕ) (bytes old : List ℕ) → len ≤ size → size ≤ length bytes → size ≤ length old →
     put_chunk 0 old (take len (take size bytes) ++ drop len (take size old)) ≡ take len bytes ++ drop len old
-front_stored zero size bytes old le many room = stored_again size old
-front_stored (suc len) zero bytes old le many room = absurd (omega arith)
-front_stored (suc len) (suc size) [] old le many room = absurd (omega arith)
-front_stored (suc len) (suc size) (x ∷ bytes) [] le many room = absurd (omega arith)
-front_stored (suc len) (suc size) (x ∷ bytes) (y ∷ old) le many room =
-    ap (λ rest. x ∷ rest) (front_stored len size bytes old (omega arith) (omega arith) (omega arith))
+prefix_stored zero size bytes old le many room = stored_again size old
+prefix_stored (suc len) zero bytes old le many room = absurd (omega arith)
+prefix_stored (suc len) (suc size) [] old le many room = absurd (omega arith)
+prefix_stored (suc len) (suc size) (x ∷ bytes) [] le many room = absurd (omega arith)
+prefix_stored (suc len) (suc size) (x ∷ bytes) (y ∷ old) le many room =
+    ap (λ rest. x ∷ rest) (prefix_stored len size bytes old (omega arith) (omega arith) (omega arith))

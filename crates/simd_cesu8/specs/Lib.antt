@@ -1,3 +1,5 @@
+-- The definitions that the public contracts cite, in reading order. Those of the crates below are
+-- public here, so that callers need to know this crate alone.
 pub use Rattle.cesu8_text.specs.Text
 pub use Rattle.cesu8_text.specs.Utf16
 pub use Rattle.cesu8_text.specs.Encoding

@@ -19,8 +19,8 @@ impl<'a> CowBytes<'a> {
     /// Returns the bytes, in either case.
     ///
     /// ```rust
-    /// let answer = simd_cesu8::encode(alloc, "a\u{10FFFF}")?;
-    /// assert_eq!(rt; answer.as_bytes(), b"a\xED\xAF\xBF\xED\xBF\xBF".as_slice());
+    /// let encoded = simd_cesu8::encode(alloc, "a\u{10FFFF}")?;
+    /// assert_eq!(rt; encoded.as_bytes(), b"a\xED\xAF\xBF\xED\xBF\xBF".as_slice());
     /// ```
     pub fn as_bytes(&self) -> &[u8]
         ensures { result.now ≡ answer_bytes self.now }
@@ -84,8 +84,8 @@ impl<'a> CowText<'a> {
     /// Returns the text, in either case.
     ///
     /// ```rust
-    /// let answer = simd_cesu8::decode_strict(alloc, b"\xED\xA0\xBD\xED\xB2\x96")?;
-    /// assert_eq!(rt; answer.as_str(), "\u{1F496}");
+    /// let text = simd_cesu8::decode_strict(alloc, b"\xED\xA0\xBD\xED\xB2\x96")?;
+    /// assert_eq!(rt; text.as_str(), "\u{1F496}");
     /// ```
     pub fn as_str(&self) -> &str
         ensures { result.now ≡ answer_text self.now }

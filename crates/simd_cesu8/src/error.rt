@@ -17,8 +17,8 @@ use std::fmt::{Debug, Display, Formatter};
 /// use simd_cesu8::DecodeFault;
 ///
 /// if let Err(DecodeFault::Invalid(error)) = simd_cesu8::decode(alloc, b"\xFF") {
-///     let shown = format!(in alloc; "{error}")?;
-///     assert_eq!(rt; shown.as_str(), "invalid input");
+///     let line = format!(in alloc; "{error}")?;
+///     assert_eq!(rt; line.as_str(), "invalid input");
 /// }
 /// ```
 #[derive(Clone, Copy, Eq)]

@@ -9,8 +9,15 @@ use Rattle.cesu8_text.specs.Reading.{HasNoStrictReading}
 use Rattle.cesu8_text.proofs.order.Lawful.{lossy_is_strict_law}
 use Rattle.cesu8_text.proofs.reading.Borrowing.{never_borrowed}
 use Rattle.cesu8_text.proofs.reading.LossyBorrowing.{changed_reading}
-use Rattle.simd_cesu8.proofs.Faults.{refused_as}
+use Rattle.simd_cesu8.specs.Fault.{IfInvalid}
+use Rattle.simd_cesu8.specs.declared.error.DecodeFault.{DecodeFault}
+use Rattle.simd_cesu8.specs.declared.error.DecodeFault.TheVariants.{Invalid, Memory}
 use Rattle.simd_cesu8.proofs.calls.decode_as.Goals as goal
+
+-- What follows from the fact of an error `Invalid` is such a fact too.
+IfInvalid-weaker : {P Q : Type 0} (fault : DecodeFault) → (P → Q) → IfInvalid fault P → IfInvalid fault Q
+IfInvalid-weaker (Invalid error) follows invalid = follows invalid
+IfInvalid-weaker (Memory error) follows memory = memory
 
 pub known_text-requires : goal.known_text-requires
 known_text-requires g c = (g.met.A.Accepts.known g.F.Flavor.flavor c.args.bytes.now).is_utf8 c.in_default.ensures.kept
@@ -56,10 +63,10 @@ returns-in_err-built g c =
     let not_kept : ¬ (g.A.Accepts.keeps f bytes) = c.in-Some.ensures.other in
     let unread : HasNoStrictReading f bytes → (text : List ℕ) → ¬ (g.A.Accepts.reads f bytes text) =
     λ none text reads. none text (((known.other not_kept).strictly text).0 reads) in
-    let refused = refused_as c.in_err-built.field-0.0 unread c.in_err-built.ensures.invalid in
+    let invalid = IfInvalid-weaker c.in_err-built.field-0.0 unread c.in_err-built.ensures.invalid in
     record {
       text = search rules;
-      invalid = search (rules, refused);
+      invalid = search (rules, invalid);
       borrowed = search rules;
       borrowed_where = search rules;
       succeeds = λ kept. absurd (not_kept kept);

@@ -1,39 +1,37 @@
 -- The fast path copies ASCII that is unchanged, which is its own strict reading. Otherwise the call
 -- decodes the first bytes to the buffer, which the fast path left unchanged.
-use Rattle.std.proofs.Common.{◌≡◌, ℕ, List, Result, Ok, min, length, take, ap, subst, ◌∙◌, arith}
+use Rattle.std.proofs.Common.{ℕ, ◌^◌, ◌<◌, ◌≤◌, List, Ok, length, take, arith}
+use Rattle.std.specs.Str.{chars}
 use Rattle.std.proofs.lemmas.List.{take_min}
 use Rattle.simd_cesu8.specs.Encoding.{Flavor}
 use Rattle.simd_cesu8.specs.Reading.{IsStrictReading}
-use Rattle.simd_cesu8.specs.Slices.{WritesReading}
-use Rattle.simd_cesu8.specs.declared.error.DecodeSliceFault.{DecodeSliceFault}
-use Rattle.simd_cesu8.proofs.FrontsToSlices.{unchanged_written}
+use Rattle.simd_cesu8.specs.Class.{IsUnchangedUtf8}
+use Rattle.simd_cesu8.specs.Slices.{StandsAtFront, WritesReading}
+use Rattle.cesu8_text.proofs.reading.KeptTexts.{encoding_texts}
+use Rattle.cesu8_bytes.specs.declared.strictness.Strictness.TheVariants.{Strict}
+use Rattle.cesu8_decode.proofs.chunks.SliceReadings.{answer_put, only_kept}
 use Rattle.simd_cesu8.proofs.front_to_slice.decode_strict_front_to_slice.Goals as goal
 
--- The first `len` bytes are the first `most`, which is `len` or the number of bytes, if that is
--- less. So what is written for one is written for the other.
-of_front : (f : Flavor) (bytes old new : List ℕ) (len most : ℕ) (result : Result ℕ DecodeSliceFault) → most ≡ min len (length bytes) →
-    WritesReading (IsStrictReading f (take most bytes)) result old new → WritesReading (IsStrictReading f (take len bytes)) result old new
-of_front f bytes old new len most result is writes =
-    subst (λ front. WritesReading (IsStrictReading f front) result old new) (ap (λ n. take n bytes) is ∙ take_min len bytes) writes
+-- Copying unchanged bytes to the start of the buffer writes their strict reading, since they are
+-- its UTF-8.
+unchanged_written : (f : Flavor) (bytes : List ℕ) (len : ℕ) (old new : List ℕ) → IsUnchangedUtf8 f bytes → length bytes < 2 ^ 64 →
+    length bytes ≤ length old → StandsAtFront bytes len old new → WritesReading (IsStrictReading f bytes) (Ok len) old new
+unchanged_written f bytes len old new unchanged small room stands =
+    let is = only_kept f bytes _ _ _ (encoding_texts f bytes) Strict unchanged in
+    let puts = answer_put Strict (IsStrictReading f bytes) (chars bytes) bytes old is small len new room stands in
+    record { written = puts.written; fits = puts.fits; invalid = puts.invalid; needed = tt; unchanged = tt }
 
 pub returns-then-copy_unchanged_ascii : goal.returns-then-copy_unchanged_ascii
 returns-then-copy_unchanged_ascii g c =
-    let f = g.F.Flavor.flavor in
-    let most = c.min-len.result in
-    let front = take most c.args.bytes.now in
+    let first = take c.min-len.result c.args.bytes.now in
     let copied = c.copy_unchanged_ascii.ensures in
     let found = c.if-copy_unchanged_ascii.true in
     let stands = copied.copied found in
-    of_front f c.args.bytes.now c.args.buf.now c.copy_unchanged_ascii.new.buf c.args.len most (Ok most) c.min-len.ensures
-    (unchanged_written f front most c.args.buf.now c.copy_unchanged_ascii.new.buf (copied.unchanged found)
+    rw (← take_min c.args.len c.args.bytes.now, ← c.min-len.ensures)
+    (unchanged_written g.F.Flavor.flavor first c.min-len.result c.args.buf.now c.copy_unchanged_ascii.new.buf (copied.unchanged found)
     (omega (arith, stands.0, c.min-len.type_inv)) (omega (arith, stands.0, copied.fits found)) stands)
 
 pub returns : goal.returns
 returns g c =
-    let f = g.F.Flavor.flavor in
-    let front = take c.min-len.result c.args.bytes.now in
-    let result = c.decode_by_call.result in
-    let new = c.decode_by_call.new.buf in
-    of_front f c.args.bytes.now c.args.buf.now new c.args.len c.min-len.result result c.min-len.ensures
-    (subst (λ old. WritesReading (IsStrictReading f front) result old new)
-    (c.copy_unchanged_ascii.ensures.other c.if-copy_unchanged_ascii.false) c.decode_by_call.ensures)
+    rw (← take_min c.args.len c.args.bytes.now, ← c.min-len.ensures, ← c.copy_unchanged_ascii.ensures.other c.if-copy_unchanged_ascii.false)
+    c.decode_by_call.ensures
