@@ -1,6 +1,6 @@
 -- The contracts of the stream calls in Rattle imply those of the exports, which return a status for
 -- the state.
-use Rattle.std.proofs.Common.{◌≡◌, ◌↔◌, ℕ, ◌<◌, List, [], ◌∷◌, Bool, refl, inl, inr, arith}
+use Rattle.std.proofs.Common.{◌≡◌, ◌↔◌, ℕ, ◌<◌, List, [], ◌∷◌, Bool, refl, ap, inl, inr, arith}
 use Rattle.cesu8_stream.specs.Streams as stream
 use Rattle.cesu8_stream.specs.Lossy as stream_lossy
 use Rattle.cesu8_stream.specs.declared.progress.Progress as stream_progress
@@ -8,57 +8,36 @@ use Rattle.cesu8_stream.specs.declared.progress.State.{State}
 use Rattle.cesu8_stream.specs.declared.progress.State.TheVariants.{InputEmpty, Incomplete, OutputFull, Malformed}
 use Rattle.cesu8_c.specs.declared.answer.TheConstants.{OK, INCOMPLETE, FULL}
 use Rattle.cesu8_c.specs.Answers.{IsAmong}
-use Rattle.cesu8_c.specs.Pieces.{status_of, told_of_progress, ConvertsPiece, DecodesPiece}
+use Rattle.cesu8_c.specs.Pieces.{status_of, progress_for, ConvertsPiece, DecodesPiece}
 
--- Each status is returned exactly for its state. `malformed` is one of the statuses 1 to 5, so it
--- differs from OK, INCOMPLETE and FULL.
-told_ok : (malformed : ℕ) (state : State) → 0 < malformed → malformed < 6 →
-    (status_of malformed state ≡ OK) ↔ (state ≡ InputEmpty)
-told_ok malformed InputEmpty some few = ((λ _. refl), (λ _. refl))
-told_ok malformed Incomplete some few = ((λ e. absurd (let h = e in cc)), (λ s. absurd (let e = s in cc)))
-told_ok malformed OutputFull some few = ((λ e. absurd (let h = e in cc)), (λ s. absurd (let e = s in cc)))
-told_ok malformed Malformed some few = ((λ e. absurd (omega arith)), (λ s. absurd (let e = s in cc)))
+-- Different states have different statuses, since `malformed` is one of the statuses 1 to 5.
+same_state : (malformed : ℕ) (state other : State) → 0 < malformed → malformed < 6 →
+    status_of malformed state ≡ status_of malformed other → state ≡ other
+same_state malformed state other positive small same = grind arith
 
-told_incomplete : (malformed : ℕ) (state : State) → 0 < malformed → malformed < 6 →
-    (status_of malformed state ≡ INCOMPLETE) ↔ (state ≡ Incomplete)
-told_incomplete malformed InputEmpty some few = ((λ e. absurd (let h = e in cc)), (λ s. absurd (let e = s in cc)))
-told_incomplete malformed Incomplete some few = ((λ _. refl), (λ _. refl))
-told_incomplete malformed OutputFull some few = ((λ e. absurd (let h = e in cc)), (λ s. absurd (let e = s in cc)))
-told_incomplete malformed Malformed some few = ((λ e. absurd (omega arith)), (λ s. absurd (let e = s in cc)))
-
-told_full : (malformed : ℕ) (state : State) → 0 < malformed → malformed < 6 →
-    (status_of malformed state ≡ FULL) ↔ (state ≡ OutputFull)
-told_full malformed InputEmpty some few = ((λ e. absurd (let h = e in cc)), (λ s. absurd (let e = s in cc)))
-told_full malformed Incomplete some few = ((λ e. absurd (let h = e in cc)), (λ s. absurd (let e = s in cc)))
-told_full malformed OutputFull some few = ((λ _. refl), (λ _. refl))
-told_full malformed Malformed some few = ((λ e. absurd (omega arith)), (λ s. absurd (let e = s in cc)))
-
-told_malformed : (malformed : ℕ) (state : State) → 0 < malformed → malformed < 6 →
-    (status_of malformed state ≡ malformed) ↔ (state ≡ Malformed)
-told_malformed malformed InputEmpty some few = ((λ e. absurd (omega arith)), (λ s. absurd (let e = s in cc)))
-told_malformed malformed Incomplete some few = ((λ e. absurd (omega arith)), (λ s. absurd (let e = s in cc)))
-told_malformed malformed OutputFull some few = ((λ e. absurd (omega arith)), (λ s. absurd (let e = s in cc)))
-told_malformed malformed Malformed some few = ((λ _. refl), (λ _. refl))
-
--- Equivalence is transitive.
-both : (A B C : Type 0) → A ↔ B → B ↔ C → A ↔ C
-both A B C first second = ((λ a. second.0 (first.0 a)), (λ c. first.1 (second.1 c)))
+-- So if a state is returned exactly when a fact holds, its status is.
+status_for : (fact : Type 0) (malformed : ℕ) (state returned : State) → 0 < malformed → malformed < 6 →
+    (state ≡ returned) ↔ fact → (status_of malformed state ≡ status_of malformed returned) ↔ fact
+status_for fact malformed state returned positive small is = (
+  (λ same. is.0 (same_state malformed state returned positive small same)),
+  (λ holds. ap (status_of malformed) (is.1 holds)),
+)
 
 -- The contract of an export that converts well-formed input.
-pub converts_told : (from to : List ℕ → List ℕ) (widest malformed : ℕ) (bytes : List ℕ)
+pub converts_piece : (from to : List ℕ → List ℕ) (widest malformed : ℕ) (bytes : List ℕ)
     (progress : stream_progress.Progress) (old new : List ℕ) → 0 < malformed → malformed < 6 →
     stream.ConvertsPiece from to widest bytes progress old new →
-    ConvertsPiece from to widest malformed bytes (told_of_progress malformed progress) old new
-converts_told from to widest malformed bytes progress old new some few piece = record {
+    ConvertsPiece from to widest malformed bytes (progress_for malformed progress) old new
+converts_piece from to widest malformed bytes progress old new positive small piece = record {
   text = piece.text;
   within = piece.within;
-  ok = both _ _ _ (told_ok malformed progress.state some few) piece.input_empty;
-  incomplete = both _ _ _ (told_incomplete malformed progress.state some few) piece.incomplete;
-  full = both _ _ _ (told_full malformed progress.state some few) piece.output_full;
-  never_begins = both _ _ _ (told_malformed malformed progress.state some few) piece.malformed;
+  ok = status_for _ malformed progress.state InputEmpty positive small piece.input_empty;
+  incomplete = status_for _ malformed progress.state Incomplete positive small piece.incomplete;
+  full = status_for _ malformed progress.state OutputFull positive small piece.output_full;
+  never_begins = status_for _ malformed progress.state Malformed positive small piece.malformed;
   statuses = among progress.state;
-  few_left = (λ s. piece.few_left ((told_incomplete malformed progress.state some few).0 s));
-  moves = (λ wide s. piece.progress wide ((told_full malformed progress.state some few).0 s));
+  few_left = λ s. piece.few_left (same_state malformed progress.state Incomplete positive small s);
+  moves = λ wide s. piece.progress wide (same_state malformed progress.state OutputFull positive small s);
 }
   where
     among : (state : State) → IsAmong (OK ∷ INCOMPLETE ∷ FULL ∷ malformed ∷ []) (status_of malformed state)
@@ -68,19 +47,19 @@ converts_told from to widest malformed bytes progress old new some few piece = r
     among Malformed = inr (inr (inr (inl refl)))
 
 -- The contract of an export that replaces ill-formed bytes.
-pub decodes_told : (from reading : List ℕ → List ℕ) (is_last : Bool) (malformed : ℕ) (bytes : List ℕ)
+pub decodes_piece : (from reading : List ℕ → List ℕ) (is_last : Bool) (malformed : ℕ) (bytes : List ℕ)
     (progress : stream_progress.Progress) (old new : List ℕ) → 0 < malformed → malformed < 6 →
     stream_lossy.DecodesPiece from reading is_last bytes progress old new →
-    DecodesPiece from reading is_last bytes (told_of_progress malformed progress) old new
-decodes_told from reading is_last malformed bytes progress old new some few piece = record {
+    DecodesPiece from reading is_last bytes (progress_for malformed progress) old new
+decodes_piece from reading is_last malformed bytes progress old new positive small piece = record {
   text = piece.text;
   within = piece.within;
-  ok = both _ _ _ (told_ok malformed progress.state some few) piece.input_empty;
-  incomplete = both _ _ _ (told_incomplete malformed progress.state some few) piece.incomplete;
-  full = both _ _ _ (told_full malformed progress.state some few) piece.output_full;
+  ok = status_for _ malformed progress.state InputEmpty positive small piece.input_empty;
+  incomplete = status_for _ malformed progress.state Incomplete positive small piece.incomplete;
+  full = status_for _ malformed progress.state OutputFull positive small piece.output_full;
   statuses = among progress.state piece.malformed;
-  few_left = (λ s. piece.few_left ((told_incomplete malformed progress.state some few).0 s));
-  moves = (λ wide s. piece.progress wide ((told_full malformed progress.state some few).0 s));
+  few_left = λ s. piece.few_left (same_state malformed progress.state Incomplete positive small s);
+  moves = λ wide s. piece.progress wide (same_state malformed progress.state OutputFull positive small s);
 }
   where
     among : (state : State) → (state ≡ Malformed → ⊥) → IsAmong (OK ∷ INCOMPLETE ∷ FULL ∷ []) (status_of malformed state)

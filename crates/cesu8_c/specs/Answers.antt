@@ -27,21 +27,21 @@ abbrev pub answer_of : Reading → Answer
 answer_of read = record { status = read.status; length = read.length }
 
 -- What C gets for the result of a call that writes an encoding to a slice.
-abbrev pub told_of_bytes : Result ℕ TooShort → Answer
-told_of_bytes (Ok len) = record { status = OK; length = len }
-told_of_bytes (Err fault) = record { status = TOO_SMALL; length = fault.needed }
+abbrev pub answer_for_bytes : Result ℕ TooShort → Answer
+answer_for_bytes (Ok len) = record { status = OK; length = len }
+answer_for_bytes (Err fault) = record { status = TOO_SMALL; length = fault.needed }
 
 -- What C gets for the result of a call that writes a text.
-abbrev pub told_of_text : Result ℕ DecodeSliceFault → Answer
-told_of_text (Ok len) = record { status = OK; length = len }
-told_of_text (Err (strict.Invalid error)) = record { status = INVALID; length = 0 }
-told_of_text (Err (strict.TooShort fault)) = record { status = TOO_SMALL; length = fault.needed }
+abbrev pub answer_for_text : Result ℕ DecodeSliceFault → Answer
+answer_for_text (Ok len) = record { status = OK; length = len }
+answer_for_text (Err (strict.Invalid error)) = record { status = INVALID; length = 0 }
+answer_for_text (Err (strict.TooShort fault)) = record { status = TOO_SMALL; length = fault.needed }
 
 -- What C gets for the result of a call that writes the text of bytes that may be damaged.
-abbrev pub told_of_lossy_text : Result ℕ LossySliceFault → Answer
-told_of_lossy_text (Ok len) = record { status = OK; length = len }
-told_of_lossy_text (Err lossy.TooLong) = record { status = TOO_LONG; length = 0 }
-told_of_lossy_text (Err (lossy.TooShort fault)) = record { status = TOO_SMALL; length = fault.needed }
+abbrev pub answer_for_lossy_text : Result ℕ LossySliceFault → Answer
+answer_for_lossy_text (Ok len) = record { status = OK; length = len }
+answer_for_lossy_text (Err lossy.TooLong) = record { status = TOO_LONG; length = 0 }
+answer_for_lossy_text (Err (lossy.TooShort fault)) = record { status = TOO_SMALL; length = fault.needed }
 
 -- The status is one of these.
 abbrev pub IsAmong : List ℕ → ℕ → Type 0

@@ -17,8 +17,8 @@ status_of malformed OutputFull = FULL
 status_of malformed Malformed = malformed
 
 -- What C gets for the progress of a stream's call.
-abbrev pub told_of_progress : ℕ → stream.Progress → Progress
-told_of_progress malformed progress = record {
+abbrev pub progress_for : ℕ → stream.Progress → Progress
+progress_for malformed progress = record {
   status = status_of malformed progress.state;
   read = progress.read;
   written = progress.written;

@@ -1,7 +1,7 @@
 //! What the exports return: a status, and the length of the result, a decision or a reading.
 
 ghost use Rattle.std.specs.Prelude.{◌≡◌, false};
-ghost use Rattle.cesu8_c.specs.Answers.{answer_of, told_of_bytes, told_of_text, told_of_lossy_text};
+ghost use Rattle.cesu8_c.specs.Answers.{answer_of, answer_for_bytes, answer_for_text, answer_for_lossy_text};
 
 use simd_cesu8::{DecodeSliceFault, LossySliceFault, TooShort};
 
@@ -63,7 +63,7 @@ impl Answer {
 
     /// Converts the result of a call that encodes.
     pub(crate) fn of_bytes(outcome: Result<usize, TooShort>) -> Answer
-        ensures { result ≡ told_of_bytes outcome }
+        ensures { result ≡ answer_for_bytes outcome }
     {
         match outcome {
             Ok(length) => Answer::of_length(length),
@@ -73,7 +73,7 @@ impl Answer {
 
     /// Converts the result of a call that decodes.
     pub(crate) fn of_text(outcome: Result<usize, DecodeSliceFault>) -> Answer
-        ensures { result ≡ told_of_text outcome }
+        ensures { result ≡ answer_for_text outcome }
     {
         match outcome {
             Ok(length) => Answer::of_length(length),
@@ -84,7 +84,7 @@ impl Answer {
 
     /// Converts the result of a call that decodes bytes that may be damaged.
     pub(crate) fn of_lossy_text(outcome: Result<usize, LossySliceFault>) -> Answer
-        ensures { result ≡ told_of_lossy_text outcome }
+        ensures { result ≡ answer_for_lossy_text outcome }
     {
         match outcome {
             Ok(length) => Answer::of_length(length),

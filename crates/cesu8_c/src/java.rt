@@ -34,7 +34,7 @@ pub extern "C" fn cesu8_java_read(bytes: &[u8], buf: &mut [u8]) -> Reading
     ensures { ReadsForm bytes.now result buf.old buf.new }
 {
     java_text::laws::parts();
-    match counted_front(bytes) {
+    match split_count(bytes) {
         Some((after, count)) => {
             // Usually other strings follow, so a short one is decoded with a vector that includes
             // bytes after it: then the time depends less on its length.
@@ -53,7 +53,7 @@ pub extern "C" fn cesu8_java_read(bytes: &[u8], buf: &mut [u8]) -> Reading
 pub extern "C" fn cesu8_java_read_lossy(bytes: &[u8], buf: &mut [u8]) -> Reading
     ensures { ReadsFormLossily bytes.now result buf.old buf.new }
 {
-    match counted_front(bytes) {
+    match split_count(bytes) {
         Some((after, count)) => {
             let outcome = mutf8::decode_lossy_strict_to_slice(&after[..count], buf);
             Reading::of(Answer::of_lossy_text(outcome), 2 + count)
@@ -64,7 +64,7 @@ pub extern "C" fn cesu8_java_read_lossy(bytes: &[u8], buf: &mut [u8]) -> Reading
 
 /// Splits the input after the count: returns the bytes after the first two, and the count of the
 /// string's bytes. Returns `None` if there are fewer bytes than they count.
-fn counted_front(bytes: &[u8]) -> Option<(&[u8], usize)>
+fn split_count(bytes: &[u8]) -> Option<(&[u8], usize)>
     ensures counted { IfSome result (λ front. take front.1 front.0.now ≡ counted bytes.now) }
     ensures count { IfSome result (λ front. front.1 ≡ count_in bytes.now) }
     ensures within { IfSome result (λ front. front.1 ≤ length front.0.now) }

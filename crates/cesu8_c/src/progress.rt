@@ -1,7 +1,7 @@
 //! The result of a call that converts a piece.
 
 ghost use Rattle.std.specs.Prelude.{◌≡◌};
-ghost use Rattle.cesu8_c.specs.Pieces.{told_of_progress};
+ghost use Rattle.cesu8_c.specs.Pieces.{progress_for};
 
 use crate::answer::{FULL, INCOMPLETE, OK};
 use cesu8_stream::State;
@@ -23,7 +23,7 @@ impl Progress {
     /// Converts the result of a stream's call. `malformed` is the status if no character begins at
     /// the remaining bytes.
     pub(crate) fn of(progress: cesu8_stream::Progress, malformed: u32) -> Progress
-        ensures { result ≡ told_of_progress malformed progress }
+        ensures { result ≡ progress_for malformed progress }
     {
         let status = match progress.state {
             State::InputEmpty => OK,

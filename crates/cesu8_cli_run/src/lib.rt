@@ -1,5 +1,5 @@
 //! What the program `cesu8_cli` does with its arguments, for any reader and any writer. The program
-//! passes it standard input and output, and this crate's tests, `cli_tests`, pass it devices that fail.
+//! passes it standard input and output, and the tests in `cli_tests` pass it devices that fail.
 //!
 //! - `command`: the words of a command
 //! - `answer`: the output of a command, for the whole input

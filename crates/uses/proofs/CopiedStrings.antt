@@ -9,7 +9,7 @@ use Rattle.java_text.specs.Form.{java_form, BeginsWithForm, NoFormBegins}
 use Rattle.java_text.specs.Laws.{BeginsWithForms, OneMore, NoneFollows, Bounds}
 use Rattle.uses.specs.StringFile.{NoneAreRead}
 
--- The forms of some texts were read from the source, and the rest is left. They stand in the target.
+-- The forms of some texts were read from the source and appended to the target. The rest is left.
 pub record CopiedSoFar (source rest before now : List ℕ) (count : ℕ) : Type 0 where
   pub texts : List (List ℕ)
   pub begins : BeginsWithForms source texts rest
@@ -17,7 +17,7 @@ pub record CopiedSoFar (source rest before now : List ℕ) (count : ℕ) : Type 
   pub counted : count ≡ length texts
   pub left : 2 * count + length rest ≤ length source
 
--- One string more.
+-- A step of the loop: one form more was read and appended.
 pub one_copied : Bounds → OneMore → {source rest after before now new text : List ℕ} {count : ℕ} →
     CopiedSoFar source rest before now count → BeginsWithForm rest text after →
     new ≡ now ++ java_form text → CopiedSoFar source after before new (count + 1)
@@ -39,12 +39,12 @@ one_copied bounds one_more {source} {rest} {after} {before} {now} {new} {text} s
       );
     }
 
--- Where something is left that begins with no form, the source is the forms of no texts. So a refusal
--- of the rest is one of the source.
-pub refused_whole : NoneFollows → {source rest before now : List ℕ} {count : ℕ} (fault : ReadFault) →
+-- If a nonempty rest begins with no form, the source is not a sequence of forms. So an error that
+-- says this of the rest also says it of the source.
+pub none_are_read : NoneFollows → {source rest before now : List ℕ} {count : ℕ} (fault : ReadFault) →
     CopiedSoFar source rest before now count → (rest ≡ [] → ⊥) →
     IfRefused fault (NoFormBegins rest) → IfRefused fault (NoneAreRead source)
-refused_whole none_follows {source} {rest} fault so_far some_left none = by fault none
+none_are_read none_follows {source} {rest} fault so_far some_left none = by fault none
   where
     none_read : NoFormBegins rest → NoneAreRead source
     none_read none_begins texts read =

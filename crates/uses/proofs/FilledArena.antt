@@ -11,7 +11,7 @@ use Rattle.simd_cesu8.specs.Slices.{StandsAtFront}
 use Rattle.uses.specs.Arena.{HoldsFirst, first_encoded}
 use Rattle.uses.proofs.JoinedTexts.{encoded, encoding-joined, encoded_more}
 
--- At first no text stands in it.
+-- At first the arena holds no text.
 pub none_yet : (texts : List (Bor (List ℕ))) (arena ends : List ℕ) →
     HoldsFirst texts 0 0 arena arena ends
 unfolding encoding
@@ -20,34 +20,34 @@ none_yet texts arena ends = record {
   ends_are = λ i before. absurd (omega (arith, before));
 }
 
--- One text more.
-first_more : Concat → (texts : List (Bor (List ℕ))) (count : ℕ) (d : Bor (List ℕ)) →
+-- The encodings of one text more are one encoding more.
+first_encoded_next : Concat → (texts : List (Bor (List ℕ))) (count : ℕ) (d : Bor (List ℕ)) →
     count < length texts →
     first_encoded texts (count + 1) ≡ first_encoded texts count ++ encoded (get_or texts count d)
-first_more concat texts count d inside =
+first_encoded_next concat texts count d inside =
     encoding-joined concat (take (count + 1) texts) ∙ encoded_more texts count d inside
     ∙ ap (λ front. front ++ encoded (get_or texts count d))
     (sym (encoding-joined concat (take count texts)))
 
--- It is written into what follows the others.
-front_more : (front text old now part : List ℕ) (used len : ℕ) → StandsAtFront front used old now →
+-- Writing an encoding to the part after the others appends it to them.
+written_next : (front text old now part : List ℕ) (used len : ℕ) → StandsAtFront front used old now →
     StandsAtFront text len (slice_range now used (length now)) part →
     StandsAtFront (front ++ text) (used + len) old
     (put_mid used (length now - used) now part)
-front_more front text old now part used len is_front is_part =
+written_next front text old now part used len is_front is_part =
     let len_now : length now ≡ length front + length (drop used old) =
     ap length is_front.1 ∙ length-append front (drop used old) in
     let before : take used now ≡ front =
     ap (take used) is_front.1 ∙ ap (λ n. take n (front ++ drop used old)) is_front.0
     ∙ take-append_seam front (drop used old) in
-    let behind : drop used now ≡ drop used old =
+    let after : drop used now ≡ drop used old =
     ap (drop used) is_front.1 ∙ ap (λ n. drop n (front ++ drop used old)) is_front.0
     ∙ drop-append_seam front (drop used old) in
     let all : slice_range now used (length now) ≡ drop used old =
-    ap (take (length now - used)) behind
+    ap (take (length now - used)) after
     ∙ take_all (length now - used) (drop used old) (omega (arith, len_now, is_front.0)) in
     let none : drop (length now - used) (drop used now) ≡ [] =
-    ap (drop (length now - used)) behind
+    ap (drop (length now - used)) after
     ∙ drop_all (length now - used) (drop used old) (omega (arith, len_now, is_front.0)) in
     let wrote : part ≡ text ++ drop (used + len) old =
     is_part.1 ∙ ap (λ rest. text ++ drop len rest) all
@@ -65,10 +65,10 @@ pub one_more : Concat → (texts : List (Bor (List ℕ))) (count used len : ℕ)
     HoldsFirst texts (count + 1) (used + len) old
     (put_mid used (length now - used) now part) (slice_set ends count (used + len))
 one_more concat texts count used len old now part ends d inside has_end holds is_part =
-    let more = first_more concat texts count d inside in
+    let more = first_encoded_next concat texts count d inside in
     let front : StandsAtFront (first_encoded texts (count + 1)) (used + len) old
     (put_mid used (length now - used) now part) =
-    rw more (front_more (first_encoded texts count) (encoded (get_or texts count d)) old now part
+    rw more (written_next (first_encoded texts count) (encoded (get_or texts count d)) old now part
     used len holds.front is_part) in
     record {
       front = front;
@@ -76,7 +76,7 @@ one_more concat texts count used len old now part ends d inside has_end holds is
           grind (arith, common_steps, front.0, earlier);
     }
 
--- The next text takes this many bytes more than are left.
+-- If the next text does not fit, it takes this many more bytes than are left.
 pub next_missing : Concat → {texts : List (Bor (List ℕ))} {count used needed : ℕ}
     {old now ends : List ℕ} (d : Bor (List ℕ)) →
     count < length texts → HoldsFirst texts count used old now ends →
@@ -84,7 +84,7 @@ pub next_missing : Concat → {texts : List (Bor (List ℕ))} {count used needed
     ¬ (length (encoded (get_or texts count d)) ≤ length (slice_range now used (length now))) →
     let missing = needed - (length now - used) in
     (0 < missing) × (length (first_encoded texts (count + 1)) ≡ length old + missing)
-next_missing concat {texts} {count} {used} {needed} {old} {now} d inside holds same told too_long =
+next_missing concat {texts} {count} {used} {needed} {old} {now} d inside holds same needed_is too_long =
     let within : used ≤ length now =
     omega (
       arith,
@@ -93,10 +93,10 @@ next_missing concat {texts} {count} {used} {needed} {old} {now} d inside holds s
       ap length holds.front.1
           ∙ length-append (first_encoded texts count) (drop used old),
     ) in
-    let len = ap length (first_more concat texts count d inside) in
+    let len = ap length (first_encoded_next concat texts count d inside) in
     let sum = length-append (first_encoded texts count) (encoded (get_or texts count d)) in
     let left : length (slice_range now used (length now)) ≡ length now - used =
     grind (arith, common_steps) in
     let more : length now - used < needed =
-    lt_of_not-le (λ few. too_long (omega (arith, few, left, told))) in
-    (omega (arith, more), omega (arith, more, len, sum, told, same, within, holds.front.0))
+    lt_of_not-le (λ fits. too_long (omega (arith, fits, left, needed_is))) in
+    (omega (arith, more), omega (arith, more, len, sum, needed_is, same, within, holds.front.0))

@@ -1,4 +1,4 @@
--- The encoding of texts in a row.
+-- The encoding of joined texts.
 use Rattle.std.proofs.Common.{◌≡◌, ℕ, ◌+◌, ◌<◌, List, [], ◌∷◌, ◌++◌, Bor, refl, length, get_or, take, arith}
 use Rattle.std.specs.List.{flat_map}
 use Rattle.std.specs.Str.{chars}
@@ -11,7 +11,7 @@ use Rattle.uses.specs.Texts.{joined}
 abbrev pub encoded : Bor (List ℕ) → List ℕ
 encoded text = encoding Cesu8 (chars text.now)
 
--- The encoding of the texts in a row is their encodings in a row.
+-- The encoding of the joined texts is their encodings, joined.
 pub encoding-joined : Concat → (texts : List (Bor (List ℕ))) →
     encoding Cesu8 (joined texts) ≡ flat_map encoded texts
 unfolding encoding
@@ -19,7 +19,7 @@ encoding-joined concat [] = refl
 encoding-joined concat (text ∷ texts) =
     rw (concat Cesu8 (chars text.now) (joined texts), encoding-joined concat texts) refl
 
--- One text more.
+-- The encodings of one text more are one encoding more.
 pub encoded_more : (texts : List (Bor (List ℕ))) (i : ℕ) (d : Bor (List ℕ)) → i < length texts →
     flat_map encoded (take (i + 1) texts)
     ≡ flat_map encoded (take i texts) ++ encoded (get_or texts i d)

@@ -1,3 +1,4 @@
+-- The lemmas of this crate, one module for each use that needs some.
 pub mod JoinedTexts
 pub mod LostBytes
 pub mod OrderedKeys

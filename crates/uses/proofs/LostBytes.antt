@@ -1,4 +1,4 @@
--- A log loses bytes exactly where it is no encoding.
+-- A log loses bytes exactly when it is no encoding.
 use Rattle.std.proofs.Common.{◌≡◌, ℕ, List, [], ◌∷◌, ◌++◌, map, refl, sym, ap, ◌∙◌, subst, arith}
 use Rattle.simd_cesu8.specs.Text.{IsText}
 use Rattle.simd_cesu8.specs.Encoding.{Flavor, Cesu8, encoding}
@@ -7,7 +7,7 @@ use Rattle.simd_cesu8.specs.Cutting.{Piece, Character, Replaced, IsCutting, AreP
 use Rattle.simd_cesu8.specs.Laws.{Concat}
 use Rattle.uses.specs.Repair.{LosesBytes}
 
--- Nothing is encoded as nothing.
+-- The encoding of the empty text is empty.
 nothing : (f : Flavor) → encoding f [] ≡ []
 unfolding encoding
 nothing f = refl
@@ -24,7 +24,7 @@ read_from_free concat (Character c ∷ pieces) are free =
     )
 read_from_free concat (Replaced byte ∷ pieces) are free = absurd (omega arith)
 
--- So what is no encoding loses bytes.
+-- So a log that is no encoding loses bytes.
 pub loses_bytes : Concat → (log : List ℕ) → HasNoStrictReading Cesu8 log → LosesBytes log
 loses_bytes concat log none pieces cuts =
     let some : cost pieces ≡ 0 → ⊥ =

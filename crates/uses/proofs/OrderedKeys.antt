@@ -16,11 +16,11 @@ use Rattle.uses.specs.KeyStore.{value_at, IsInUtf16Order}
 abbrev key_cmp : Vec ℕ → Vec ℕ → Ordering
 key_cmp key other = slice_cmp nat_cmp key.items other.items
 
--- What compares as equal is the same.
+-- Keys that compare as equal are equal.
 same_from_equal : (xs ys : List ℕ) → is_eq (slice_cmp nat_cmp xs ys) ≡ true → xs ≡ ys
 same_from_equal xs ys equal = same_text xs ys (sym (texts_ties xs ys ∙ equal))
 
--- What differs does not compare as equal.
+-- Different keys do not compare as equal.
 unequal_from_differ : (xs ys : List ℕ) → xs ≢ ys → is_eq (slice_cmp nat_cmp xs ys) ≡ false
 unequal_from_differ xs ys differ =
     false_from_ne_true (is_eq (slice_cmp nat_cmp xs ys)) (λ equal. differ (same_from_equal xs ys equal))
@@ -31,13 +31,13 @@ in_utf16_order order store ordered i j d before inside s t reads reads_other =
     sym (order s t reads.0 reads_other.0)
     ∙ rw (reads.1, reads_other.1) (Less-from_sorted key_cmp (keys store) i j d ordered before inside)
 
--- An update at the key of one text leaves the value at every other text.
-pub others_stay : RoundTrip → (text other : List ℕ) → IsText text → IsText other → other ≢ text →
+-- An update at the key of one text does not change the value of any other text.
+pub others_unchanged : RoundTrip → (text other : List ℕ) → IsText text → IsText other → other ≢ text →
     (key : Vec ℕ) → key.items ≡ encoding Cesu8 text →
     (old new : BTreeMap (Vec ℕ) ℕ) (value : Option ℕ) →
     UpdatesBy key_cmp (key_cmp key) old new value → value_at new other ≡ value_at old other
 unfolding KeepsOthers
-others_stay round_trip text other is_text is_other differ key key_is old new value updates =
+others_unchanged round_trip text other is_text is_other differ key key_is old new value updates =
     let encoded = encoding Cesu8 other in
     updates.3 (λ k. is_eq (slice_cmp nat_cmp encoded k.items))
     (λ x y is_x. let same = same_from_equal encoded x.items is_x in rw same refl)

@@ -21,8 +21,8 @@ one_more_is_text : (text : List ℕ) (c : ℕ) → IsText text → IsScalarValue
 one_more_is_text [] c is_text scalar = (scalar, tt)
 one_more_is_text (d ∷ text) c is_text scalar = (is_text.0, one_more_is_text text c is_text.1 scalar)
 
--- In a buffer as long as the bytes, the next character fits: with it, the text is at most as long as
--- its encoding.
+-- In a buffer as long as the bytes, the next character fits: with it, the text is at most as long
+-- as its encoding.
 next_fits : Bounds → Concat → (bytes old new : List ℕ) (read written c : ℕ) → length old ≡ length bytes →
     Converts (encoding Cesu8) utf8 bytes read written old new → Begins (encoding Cesu8) (drop read bytes) c →
     written + length (utf8 (c ∷ [])) ≤ length old
@@ -44,7 +44,7 @@ next_fits bounds concat bytes old new read written c same moves begins =
     let written_is = moves.2.0 in
     omega (arith, length-append (take read bytes) next)
 
--- What the state says of the bytes that the call left.
+-- What the state says of the bytes that the call did not read.
 pub left_says : Bounds → Concat → (bytes rest old new : List ℕ) (progress : Progress) →
     ConvertsPiece (encoding Cesu8) utf8 4 bytes progress old new → length old ≡ length bytes → rest ≡ drop progress.read bytes →
     Says progress.state rest
@@ -88,9 +88,9 @@ written_inside bytes old new progress piece =
     omega arith
 
 -- A list to which zeros were appended begins with what was there.
-pub grown_front : (before grown : List ℕ) (n k : ℕ) → length before ≤ n → grown ≡ take n before ++ replicate k 0 →
+pub grown_prefix : (before grown : List ℕ) (n k : ℕ) → length before ≤ n → grown ≡ take n before ++ replicate k 0 →
     take (length before) grown ≡ before
-grown_front before grown n k fits is =
+grown_prefix before grown n k fits is =
     ap (take (length before)) is ∙ ap (λ bs. take (length before) (bs ++ replicate k 0)) (take_all n before fits)
     ∙ take-append_seam before (replicate k 0)
 
@@ -104,7 +104,7 @@ written_after start end len front new other more long inside fits =
     ∙ ap (λ n. take n (front ++ (new ++ other))) place ∙ take-append-add front (new ++ other) end
     ∙ ap (λ bs. front ++ bs) (take-append-le end new other inside)
 
--- The bytes after the first n, moved to the front.
+-- The bytes after the first n, moved to the start.
 pub rest_moved : (bytes new : List ℕ) (n len end : ℕ) → new ≡ copy_within bytes n end 0 → end ≡ length bytes →
     len ≡ length bytes → n ≤ length bytes → take (len - n) new ≡ drop n bytes
 rest_moved bytes new n len end is end_is len_is within =

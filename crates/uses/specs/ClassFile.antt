@@ -16,7 +16,7 @@ pub record BeginsWithConstant (bytes text rest : List ℕ) : Type 0 where
   pub fits : HasForm text
   pub bytes_are : bytes ≡ 1 ∷ java_form text ++ rest
 
--- The bytes are so in no other way.
+-- The bytes are no other constant, and no other rest follows.
 abbrev pub BeginsOnlyWithConstant : List ℕ → List ℕ → List ℕ → Type 0
 BeginsOnlyWithConstant bytes text rest =
     (other more : List ℕ) → BeginsWithConstant bytes other more → (other ≡ text) × (more ≡ rest)

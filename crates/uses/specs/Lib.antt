@@ -1,3 +1,4 @@
+-- The definitions that the contracts of this crate cite, one module for each use.
 pub mod ClassFile
 pub mod Texts
 pub mod KeyStore

@@ -8,7 +8,7 @@ ghost use Rattle.simd_cesu8.specs.Encoding.{Cesu8, NeedsEncoding};
 use simd_cesu8::{DecodeFault, laws};
 use std::alloc::{AllocError, Global};
 
-/// Returns whether `encode` borrows exactly where `needs_encoded` is false.
+/// Returns whether `encode` borrows exactly when `needs_encoded` is false.
 pub fn needs_or_borrows(alloc: Global, text: &str) -> Result<bool, AllocError>
     ensures { IfOk result (λ agree. IsTrue agree) }
 {
@@ -76,7 +76,7 @@ pub fn append_and_encode(
 }
 
 /// Returns whether `decode_strict` restores the text that was encoded. If it needs no encoding,
-/// both calls borrow, and request no memory.
+/// both calls borrow, and allocate nothing.
 pub fn decodes_to_same(alloc: Global, text: &str) -> Result<bool, AllocError>
     ensures same { IfOk result (λ agree. IsTrue agree) }
     ensures succeeds { ¬ (NeedsEncoding Cesu8 (chars text.now)) → IsOk result }

@@ -5,21 +5,21 @@ ghost use Rattle.uses.specs.Arena.{HoldsFirst, first_encoded};
 
 use simd_cesu8::laws;
 
-/// An arena has no room for the next text.
+/// An arena is too small for the next text.
 #[derive(Clone, Copy, Debug)]
 pub struct ArenaFull {
-    /// How many texts stand in the arena.
+    /// How many texts are in the arena.
     pub count: usize,
     /// How many bytes these take.
     pub used: usize,
-    /// How many bytes the next text takes more than are left.
+    /// How many more bytes the next text takes than are left.
     pub missing: usize,
 }
 
-/// Writes the CESU-8 of the texts into an arena, one after the other, with the end of each, and
-/// gives the end of the last.
+/// Writes the CESU-8 of the texts to an arena, one after the other, and the end of each to `ends`.
+/// It returns the end of the last.
 ///
-/// It stops at the first text that doesn't fit. What follows the texts stays as it was.
+/// It stops at the first text that doesn't fit. The bytes after the texts are unchanged.
 ///
 /// ```rust
 /// let mut arena = [0xEE; 8];

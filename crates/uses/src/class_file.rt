@@ -33,8 +33,8 @@ impl From<ReadFault> for ConstantFault {
 /// Virtual Machine Specification). It returns its text, and the bytes after it, where the next
 /// constant begins.
 ///
-/// The text borrows the bytes where they are its UTF-8, and then takes no memory. A class file may
-/// have unpaired surrogates in such a constant. These are no text, so the call returns an error.
+/// The text borrows the bytes if they are its UTF-8, and then nothing is allocated. A class file
+/// may have unpaired surrogates in such a constant. They are no text, so the call returns an error.
 ///
 /// ```rust
 /// let (name, rest) = uses::read_utf8_constant(alloc, b"\x01\0\x03a\xC0\x80\x07\0\x02")?;

@@ -22,7 +22,7 @@ pub struct Entry {
 }
 
 impl Entry {
-    /// An entry with an empty name.
+    /// Returns an entry with an empty name.
     pub fn new(id: u32) -> Entry
         ensures id { result.id ≡ id }
         ensures name { HoldsName result.name_len result.name [] }
@@ -36,8 +36,7 @@ impl Entry {
 
     /// Gives the entry this name.
     ///
-    /// Where its MUTF-8 is longer than the field, the entry stays as it was, and `TooShort` tells
-    /// how many bytes it takes.
+    /// If its MUTF-8 is longer than the field, the entry is unchanged, and `TooShort` has its length.
     ///
     /// ```rust
     /// let mut entry = uses::Entry::new(1);
@@ -61,10 +60,9 @@ impl Entry {
         Ok(())
     }
 
-    /// Writes the name's UTF-8 at the front of a buffer, and gives its length.
+    /// Writes the name's UTF-8 to the start of a buffer, and returns its length.
     ///
-    /// Where the buffer is too short, it stays as it was, and `TooShort` tells how many bytes are
-    /// needed.
+    /// If the buffer is too short, it is unchanged, and `TooShort` has the length of the UTF-8.
     pub fn name(&self, buf: &mut [u8]) -> Result<usize, TooShort>
         ensures { (name : List ℕ) → HoldsName self.now.name_len self.now.name name →
             WritesAnswer name result buf.old buf.new }

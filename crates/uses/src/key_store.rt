@@ -16,7 +16,7 @@ pub type Store = BTreeMap<Vec<u8>, u64>;
 
 /// Stores a value for a text, in place of the old one.
 ///
-/// It returns `AllocError` if a request for memory is refused, and the store is then as before.
+/// If an allocation fails, it returns `AllocError`, and the store is unchanged.
 ///
 /// ```rust
 /// let mut store = BTreeMap::new(alloc);
@@ -42,8 +42,7 @@ pub fn put_value(alloc: Global, store: &mut Store, key: &str, value: u64) -> Res
 
 /// Returns the value of a text, if it has one.
 ///
-/// It requests memory if the key differs from the text's UTF-8, and returns `AllocError` if that is
-/// refused.
+/// It allocates if the key differs from the text's UTF-8, and returns `AllocError` if that fails.
 ///
 /// ```rust
 /// let mut store = BTreeMap::new(alloc);

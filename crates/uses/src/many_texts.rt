@@ -9,9 +9,8 @@ use std::alloc::AllocError;
 
 /// Appends the CESU-8 of each text to the buffer: of all of them, or of none.
 ///
-/// If the capacity is too small, it makes one request, for exactly what they need. It returns
-/// `AllocError` if that is refused, or if the length does not fit `usize`. The buffer is then as
-/// before.
+/// If the capacity is too small, it allocates once, exactly what they need. It returns `AllocError`
+/// if that fails, or if the length does not fit `usize`. The buffer is then unchanged.
 ///
 /// ```rust
 /// let mut buf = Vec::new(alloc);
@@ -30,7 +29,7 @@ pub fn append_all(texts: &[&str], buf: &mut Vec<u8>) -> Result<(), AllocError>
     let room = encoded_len(texts).ok_or(AllocError)?;
     buf.reserve_exact(room)?;
     for text in texts {
-        // There is room for all of them, so this can't fail.
+        // The capacity is enough for all of them, so this can't fail.
         simd_cesu8::encode_into(text, buf).unwrap();
     }
     Ok(())

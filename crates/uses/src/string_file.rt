@@ -7,8 +7,8 @@ ghost use Rattle.uses.specs.StringFile.{CopiesStrings, NoneAreRead};
 use java_text::{ReadFault, WriteFault, laws};
 use std::alloc::Global;
 
-/// Appends the strings of one file, each with its length in front, to another: all of them, or
-/// none. Returns how many.
+/// Appends the strings of one file, each after its length, to another: all of them, or none.
+/// Returns how many.
 ///
 /// ```rust
 /// let mut target = Vec::new(alloc);
@@ -32,7 +32,7 @@ pub fn copy_strings(alloc: Global, source: &[u8], target: &mut Vec<u8>) -> Resul
     copied
 }
 
-/// The same, but after an error the first strings stay.
+/// Like `copy_strings`, but after an error the target has the strings before it.
 fn append_strings(alloc: Global, source: &[u8], target: &mut Vec<u8>) -> Result<usize, ReadFault>
     ensures copied { IfOk result (λ count.
         CopiesStrings count source.now target.old.items target.new.items) }

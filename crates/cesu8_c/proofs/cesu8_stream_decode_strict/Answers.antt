@@ -4,11 +4,11 @@ use Rattle.std.proofs.Common.{arith}
 use Rattle.simd_cesu8.specs.Text.{utf8}
 use Rattle.simd_cesu8.specs.Encoding.{Cesu8, encoding}
 use Rattle.cesu8_c.specs.declared.answer.TheConstants.{INVALID}
-use Rattle.cesu8_c.proofs.Progresses.{converts_told}
+use Rattle.cesu8_c.proofs.Progresses.{converts_piece}
 use Rattle.cesu8_c.proofs.cesu8_stream_decode_strict.Goals as goal
 
 pub returns : goal.returns
 returns c =
     rw c.of.ensures
-    (converts_told (encoding Cesu8) utf8 4 INVALID c.args.bytes.now c.decode_strict.result c.args.buf.now
+    (converts_piece (encoding Cesu8) utf8 4 INVALID c.args.bytes.now c.decode_strict.result c.args.buf.now
     c.decode_strict.new.buf (omega arith) (omega arith) c.decode_strict.ensures)

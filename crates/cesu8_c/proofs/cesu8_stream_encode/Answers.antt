@@ -4,11 +4,11 @@ use Rattle.std.proofs.Common.{arith}
 use Rattle.simd_cesu8.specs.Text.{utf8}
 use Rattle.simd_cesu8.specs.Encoding.{Cesu8, encoding}
 use Rattle.cesu8_c.specs.declared.answer.TheConstants.{NOT_UTF8}
-use Rattle.cesu8_c.proofs.Progresses.{converts_told}
+use Rattle.cesu8_c.proofs.Progresses.{converts_piece}
 use Rattle.cesu8_c.proofs.cesu8_stream_encode.Goals as goal
 
 pub returns : goal.returns
 returns c =
     rw c.of.ensures
-    (converts_told utf8 (encoding Cesu8) 6 NOT_UTF8 c.args.text.now c.encode.result c.args.buf.now c.encode.new.buf
+    (converts_piece utf8 (encoding Cesu8) 6 NOT_UTF8 c.args.text.now c.encode.result c.args.buf.now c.encode.new.buf
     (omega arith) (omega arith) c.encode.ensures)

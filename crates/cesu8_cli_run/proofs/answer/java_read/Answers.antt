@@ -20,6 +20,6 @@ returns-clause-ok c =
 
 pub returns-then-not-is_empty-clause-err : goal.returns-then-not-is_empty-clause-err
 returns-then-not-is_empty-clause-err c =
-    let told : IsJavaReadAnswer c.args.input.now (Err Trailing) =
+    let is_answer : IsJavaReadAnswer c.args.input.now (Err Trailing) =
     (chars (answer_text c.in_ok-text.text), c.in_ok-text.rest.now, c.in_ok-text.ensures.text, search rules) in
-    inr told
+    inr is_answer

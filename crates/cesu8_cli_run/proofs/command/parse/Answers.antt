@@ -8,5 +8,5 @@ use Rattle.cesu8_cli_run.proofs.command.parse.Goals as goal
 
 pub returns-in-lossy-default : goal.returns-in-lossy-default
 returns-in-lossy-default c =
-    let told : map (λ word. word.now) c.args.words.now ≡ codes "lossy" ∷ word_of c.match-flavor.flavor ∷ [] = grind (arith, common_steps) in
-    told
+    let words : map (λ word. word.now) c.args.words.now ≡ codes "lossy" ∷ word_of c.match-flavor.flavor ∷ [] = grind (arith, common_steps) in
+    words

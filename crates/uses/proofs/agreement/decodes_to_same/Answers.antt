@@ -1,3 +1,5 @@
+-- By the law `inverse` the decoded string is the text. If the text needs no encoding, its encoding
+-- is unchanged UTF-8, so `decode_strict` borrows it and cannot fail.
 use Rattle.std.proofs.Common.{◌∙◌, rules}
 use Rattle.std.specs.Str.{chars}
 use Rattle.simd_cesu8.specs.Encoding.{Cesu8}

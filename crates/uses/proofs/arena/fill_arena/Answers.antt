@@ -1,3 +1,5 @@
+-- Each step writes one encoding after the others (`one_more`). If it does not fit, the buffer lacks
+-- as many bytes as `encode_to_slice` needs more (`next_missing`).
 use Rattle.std.proofs.Common.{◌<◌, ◌∙◌, length, arith}
 use Rattle.uses.proofs.FilledArena.{none_yet, one_more, next_missing}
 use Rattle.uses.proofs.arena.fill_arena.Goals as goal
@@ -9,7 +11,7 @@ pub returns-in-Err-clause-next : goal.returns-in-Err-clause-next
 returns-in-Err-clause-next c =
     let missing = next_missing c.concat.ensures _ c.loop-count-test.true c.loop-count.invariant
     c.loop-count.auto.arena (c.needed.ensures ∙ c.in-Err.ensures.needed)
-    (λ few. cc (c.in-Err.ensures.fits.1 few)) in
+    (λ fits. cc (c.in-Err.ensures.fits.1 fits)) in
     (c.loop-count-test.true, missing.0, missing.1)
 
 pub loop-count-preserved : goal.loop-count-preserved

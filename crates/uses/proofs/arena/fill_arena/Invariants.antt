@@ -1,3 +1,4 @@
+-- The arena holds the encodings of the first texts, and `ends` has the end of each.
 use Rattle.uses.specs.Arena.{HoldsFirst}
 use Rattle.uses.proofs.arena.fill_arena.Given as goal
 

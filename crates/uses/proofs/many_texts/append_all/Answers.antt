@@ -1,3 +1,4 @@
+-- The capacity for all encodings was reserved first. The next one fits, so `unwrap` never fails.
 use Rattle.std.proofs.Common.{length, arith, append-nil, ap, sym}
 use Rattle.std.proofs.lemmas.Grind.{common_steps}
 use Rattle.std.proofs.lemmas.List.Folds.{length-flat_map-take}

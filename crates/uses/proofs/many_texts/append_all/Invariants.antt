@@ -1,3 +1,4 @@
+-- The encodings of the texts so far were appended, and the capacity is still enough for all.
 use Rattle.std.proofs.Common.{◌≡◌, ◌≤◌, ◌+◌, ◌++◌, length, take, vec_len, vec_capacity}
 use Rattle.std.specs.List.{flat_map}
 use Rattle.uses.proofs.JoinedTexts.{encoded}

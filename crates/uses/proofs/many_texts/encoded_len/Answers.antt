@@ -1,3 +1,5 @@
+-- The encoding of the joined texts is their encodings in a row (`encoding-joined`). If a sum of the
+-- first lengths is too large, so is the sum of all.
 use Rattle.std.proofs.Common.{arith}
 use Rattle.std.proofs.lemmas.Grind.{common_steps}
 use Rattle.std.proofs.lemmas.List.Folds.{length-flat_map-take}

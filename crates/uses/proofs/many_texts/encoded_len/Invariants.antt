@@ -1,3 +1,4 @@
+-- The total is the length of the encodings of the texts so far.
 use Rattle.std.proofs.Common.{◌≡◌, length, take}
 use Rattle.std.specs.List.{flat_map}
 use Rattle.uses.proofs.JoinedTexts.{encoded}

@@ -1,5 +1,8 @@
+-- The piece is decoded to zeros appended to the text, which is then truncated after what was
+-- written. The bytes that were not read move to the start of `bytes`. So no byte is lost, and none
+-- is read twice.
 use Rattle.std.proofs.Common.{◌≡◌, ◌+◌, ◌∙◌, ◌++◌, ℕ, sym, ap, arith, length, take, length-take, length-drop}
-use Rattle.uses.proofs.ReadPieces.{moved, left_says, written_inside, grown_front, written_after, rest_moved}
+use Rattle.uses.proofs.ReadPieces.{moved, left_says, written_inside, grown_prefix, written_after, rest_moved}
 use Rattle.uses.proofs.pieces.append_piece.Goals as goal
 
 pub returns-clause-moves : goal.returns-clause-moves
@@ -13,7 +16,7 @@ returns-clause-moves c =
     let long : start ≡ length before = omega (arith, c.len-start.ensures, c.args.text.now.ok) in
     let size : c.len-2.result ≡ length bytes = omega (arith, c.len-2.ensures, c.args.bytes.now.ok) in
     let front : take start grown ≡ before =
-    rw long (grown_front before grown (start + c.len.result) _ (omega arith) (c.deref_mut.ensures.value ∙ c.in_ok-resize.ensures.items)) in
+    rw long (grown_prefix before grown (start + c.len.result) _ (omega arith) (c.deref_mut.ensures.value ∙ c.in_ok-resize.ensures.items)) in
     let inside = written_inside _ _ _ call.result piece in
     let left = c.truncate-2.ensures.items ∙ rest_moved bytes _ call.result.read _ _ c.copy_within.ensures.items
     (omega (arith, c.args.bytes.now.ok)) size piece.within in

@@ -1,3 +1,5 @@
+-- A log loses bytes if and only if it has no strict reading (`loses_bytes`, `loses_none`). The laws
+-- `middle` and `fewest` say what of it remains.
 use Rattle.std.proofs.Common.{◌≡◌, IsTrue, false, refl, sym, ◌∙◌, ap}
 use Rattle.std.specs.Str.{chars}
 use Rattle.simd_cesu8.specs.Cow.{answer_text}

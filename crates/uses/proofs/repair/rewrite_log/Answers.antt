@@ -1,3 +1,5 @@
+-- If the log has a strict reading, this is the lossy reading too, and its encoding is the log
+-- itself.
 use Rattle.std.proofs.Common.{◌≡◌, ◌∙◌, ap, arith}
 use Rattle.std.proofs.lemmas.Grind.{common_steps}
 use Rattle.simd_cesu8.specs.Encoding.{Cesu8, encoding}

@@ -1,3 +1,4 @@
+-- The law `inverse` says that strict decoding restores what was encoded, and never rejects it.
 use Rattle.std.proofs.Common.{◌∙◌}
 use Rattle.std.specs.String.{string_bytes}
 use Rattle.std.proofs.lemmas.Result.{IfOk-weaker}

@@ -1,3 +1,5 @@
+-- By the law `lossy`, the reading of an encoding is the encoded text. Strings with equal characters
+-- have equal bytes, by the law `chars`.
 use Rattle.std.proofs.Common.{◌∙◌, ap}
 use Rattle.std.specs.Str.{chars}
 use Rattle.std.specs.String.{string_bytes}

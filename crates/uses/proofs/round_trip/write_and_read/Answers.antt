@@ -1,3 +1,5 @@
+-- The buffer begins with the form of the text, and by `read_utf` with no other form. So the string
+-- that was read has the text's characters, and then also its bytes.
 use Rattle.std.proofs.Common.{◌≡◌, ◌<◌, ◌++◌, ◌∙◌, ap, sym, arith, rules}
 use Rattle.std.specs.Str.{chars}
 use Rattle.std.proofs.Math.Nat.{lt_of_not-le}
@@ -9,7 +11,7 @@ pub returns-in-Ok-clause-same : goal.returns-in-Ok-clause-same
 returns-in-Ok-clause-same c =
     let text = c.args.text.now in
     let fits : mutf8_len (chars text) < 65536 =
-    lt_of_not-le (λ more. cc (c.in_ok-write_utf.ensures.too_long (λ few. omega (arith, more, few)))) in
+    lt_of_not-le (λ more. cc (c.in_ok-write_utf.ensures.too_long (λ small. omega (arith, more, small)))) in
     let is : c.as_slice.result.now ≡ java_form (chars text) ++ c.args.rest.now = search rules in
     let only = c.in-Ok.ensures.only (chars text) c.args.rest.now
     (record { scalars = c.chars.ensures.text text c.utf8.text; fits = omega arith; bytes_are = is }) in

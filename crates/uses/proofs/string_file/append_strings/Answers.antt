@@ -1,15 +1,17 @@
+-- Each step adds one form to those that were read (`one_copied`). If no form begins the rest, the
+-- source is no sequence of forms at all (`none_are_read`).
 use Rattle.std.proofs.Common.{◌≡◌, [], length, rules, arith, ap}
 use Rattle.std.proofs.lemmas.Grind.{common_steps}
-use Rattle.uses.proofs.CopiedStrings.{one_copied, refused_whole}
+use Rattle.uses.proofs.CopiedStrings.{one_copied, none_are_read}
 use Rattle.uses.proofs.string_file.append_strings.Goals as goal
 
 pub returns-in_err-text-clause-refused : goal.returns-in_err-text-clause-refused
 returns-in_err-text-clause-refused c =
     let some_left : c.loop-rest.rest.now ≡ [] → ⊥ =
     λ none. let len = ap length none in grind (arith, common_steps) in
-    let refused = refused_whole c.in_turn.ensures.none_follows c.in_err-text.field-0.0 c.loop-rest.invariant some_left
+    let none = none_are_read c.in_turn.ensures.none_follows c.in_err-text.field-0.0 c.loop-rest.invariant some_left
     c.in_err-text.ensures.refused in
-    search (rules, refused)
+    search (rules, none)
 
 pub loop-rest-preserved-in-Ok : goal.loop-rest-preserved-in-Ok
 loop-rest-preserved-in-Ok c =

@@ -1,3 +1,4 @@
+-- A new entry has the empty name, whose encoding has no bytes.
 use Rattle.std.proofs.Common.{[], refl}
 use Rattle.std.specs.Str.{chars}
 use Rattle.simd_cesu8.specs.Encoding.{encoding}
