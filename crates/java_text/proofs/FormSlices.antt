@@ -33,31 +33,31 @@ count_of len n same small =
 
 -- If the count is written to the first two bytes, and the MUTF-8 after them, the form stands at the
 -- start of the buffer.
-form_behind_count : (text old mid count : List ℕ) (len room : ℕ) → 2 ≤ length old → len ≤ length (mid_of 2 room old) → len ≡ mutf8_len text →
+form_after_count : (text old mid count : List ℕ) (len room : ℕ) → 2 ≤ length old → len ≤ length (mid_of 2 room old) → len ≡ mutf8_len text →
     mid ≡ encoding Mutf8 text ++ drop len (mid_of 2 room old) → count ≡ (mutf8_len text / 0x100) ∷ (mutf8_len text % 0x100) ∷ [] →
     StandsAtFront (java_form text) (2 + len) old (count ++ drop 2 (put_mid 2 room old mid))
 unfolding java_form
-form_behind_count text [] mid count len room fits inside len_is mid_is count_is = absurd (omega arith)
-form_behind_count text (a ∷ []) mid count len room fits inside len_is mid_is count_is = absurd (omega arith)
-form_behind_count text (a ∷ b ∷ old) mid count len room fits inside len_is mid_is count_is =
+form_after_count text [] mid count len room fits inside len_is mid_is count_is = absurd (omega arith)
+form_after_count text (a ∷ []) mid count len room fits inside len_is mid_is count_is = absurd (omega arith)
+form_after_count text (a ∷ b ∷ old) mid count len room fits inside len_is mid_is count_is =
     let mutf8 = encoding Mutf8 text in
-    let behind : drop len (take room old) ++ drop room old ≡ drop len old =
+    let after : drop len (take room old) ++ drop room old ≡ drop len old =
     sym (drop-append-le len (take room old) (drop room old) inside) ∙ ap (drop len) (take-append-drop room old) in (
       omega arith,
       ap (λ bs. bs ++ (mid ++ drop room old)) count_is
           ∙ ap (λ m. (mutf8_len text / 0x100) ∷ (mutf8_len text % 0x100) ∷ (m ++ drop room old)) mid_is
           ∙ ap (λ bs. (mutf8_len text / 0x100) ∷ (mutf8_len text % 0x100) ∷ bs)
-          (append_assoc mutf8 (drop len (take room old)) (drop room old) ∙ ap (λ bs. mutf8 ++ bs) (behind ∙ sym (drop_after_two a b len old))),
+          (append_assoc mutf8 (drop len (take room old)) (drop room old) ∙ ap (λ bs. mutf8 ++ bs) (after ∙ sym (drop_after_two a b len old))),
     )
 
--- Like `form_behind_count`, with a name for the offset at which the form ends.
-pub form_at_front : (text old mid count : List ℕ) (len room end : ℕ) → end ≡ 2 + len → 2 ≤ length old → len ≤ length (mid_of 2 room old) →
+-- Like `form_after_count`, with a name for the offset at which the form ends.
+pub form_at_start : (text old mid count : List ℕ) (len room end : ℕ) → end ≡ 2 + len → 2 ≤ length old → len ≤ length (mid_of 2 room old) →
     len ≡ mutf8_len text → mid ≡ encoding Mutf8 text ++ drop len (mid_of 2 room old) →
     count ≡ (mutf8_len text / 0x100) ∷ (mutf8_len text % 0x100) ∷ [] →
     StandsAtFront (java_form text) end old (count ++ drop 2 (put_mid 2 room old mid))
-form_at_front text old mid count len room end end_is fits inside len_is mid_is count_is =
+form_at_start text old mid count len room end end_is fits inside len_is mid_is count_is =
     subst (λ n. StandsAtFront (java_form text) n old (count ++ drop 2 (put_mid 2 room old mid))) (sym end_is)
-    (form_behind_count text old mid count len room fits inside len_is mid_is count_is)
+    (form_after_count text old mid count len room fits inside len_is mid_is count_is)
 
 -- Writing a part of the buffer back to its place leaves the buffer unchanged.
 pub put_back : (old mid : List ℕ) (room : ℕ) → mid ≡ mid_of 2 room old → put_mid 2 room old mid ≡ old
@@ -90,10 +90,10 @@ form_misfits text old new len fault len_is misfits long short same = record {
 -- The lossy reading of at most 65,535 bytes has a length that fits `usize`.
 pub never_too_long : LossyBound → (bytes old new : List ℕ) (fault : LossySliceFault) → length bytes ≤ 65535 → fault ≡ lossy.TooLong →
     WritesLossyReading (λ text. text ≡ reading Mutf8 bytes) (Err fault) old new → ⊥
-never_too_long bound bytes old new fault few told writes =
-    let found = (subst (λ d. WritesLossyReading (λ text. text ≡ reading Mutf8 bytes) (Err d) old new) told writes).too_long.0 tt in
+never_too_long bound bytes old new fault small is writes =
+    let found = (subst (λ d. WritesLossyReading (λ text. text ≡ reading Mutf8 bytes) (Err d) old new) is writes).too_long.0 tt in
     omega (arith, bound Mutf8 bytes, ap (λ text. length (utf8 text)) found.1, found.2)
 
 -- There are at most 65,535 counted bytes.
-pub few_counted : (bytes : List ℕ) → ((i : ℕ) → get_or bytes i 0 < 256) → length (counted bytes) ≤ 65535
-few_counted bytes small = omega (arith, small 0, small 1, length-take (count_in bytes) (drop 2 bytes))
+pub counted_bound : (bytes : List ℕ) → ((i : ℕ) → get_or bytes i 0 < 256) → length (counted bytes) ≤ 65535
+counted_bound bytes small = omega (arith, small 0, small 1, length-take (count_in bytes) (drop 2 bytes))

@@ -39,8 +39,8 @@ rest_in_form bytes text rest h =
     ∙ drop_after_two _ _ (mutf8_len text) (encoding Mutf8 text ++ rest) ∙ drop-append_seam (encoding Mutf8 text) rest
 
 -- Taking as many bytes after the first two as there are counted bytes gives the counted bytes.
-pub counted_behind_two : (bytes some : List ℕ) → some ≡ counted bytes → take (length some) (take (length bytes - 2) (drop 2 bytes)) ≡ counted bytes
-counted_behind_two bytes some are =
+pub counted_after_count : (bytes some : List ℕ) → some ≡ counted bytes → take (length some) (take (length bytes - 2) (drop 2 bytes)) ≡ counted bytes
+counted_after_count bytes some are =
     let after = drop 2 bytes in
     rw take_rest
     (ap (λ bs. take (length bs) after) are ∙ ap (λ n. take n after) (length-take (count_in bytes) after) ∙ take_min (count_in bytes) after)
@@ -50,7 +50,7 @@ pub counted_written : (bytes some : List ℕ) (result : Result ℕ DecodeSliceFa
     WritesReading (IsStrictReading Mutf8 (take (length some) (take (length bytes - 2) (drop 2 bytes)))) result old new →
     WritesReading (IsStrictReading Mutf8 (counted bytes)) result old new
 counted_written bytes some result old new are writes =
-    subst (λ front. WritesReading (IsStrictReading Mutf8 front) result old new) (counted_behind_two bytes some are) writes
+    subst (λ part. WritesReading (IsStrictReading Mutf8 part) result old new) (counted_after_count bytes some are) writes
 
 -- No form begins truncated bytes.
 pub none_begins_truncated : (bytes : List ℕ) → IsTruncated bytes → NoFormBegins bytes
@@ -115,10 +115,10 @@ only_form_of_parts bytes (Ok parts) one small first second whole = λ text read.
 only_form_of_parts bytes (Err fault) one small first second whole = tt
 
 -- If the decoder rejects the counted bytes, no form begins the bytes.
-pub refused_as : (fault : DecodeFault) (bytes : List ℕ) → decoding.IfInvalid fault (HasNoStrictReading Mutf8 (counted bytes)) →
+pub none_begins_rejected : (fault : DecodeFault) (bytes : List ℕ) → decoding.IfInvalid fault (HasNoStrictReading Mutf8 (counted bytes)) →
     IfRefused (read_fault_of fault) (NoFormBegins bytes)
-refused_as (Invalid error) bytes h = none_begins_invalid bytes h
-refused_as (Memory error) bytes h = tt
+none_begins_rejected (Invalid error) bytes h = none_begins_invalid bytes h
+none_begins_rejected (Memory error) bytes h = tt
 
 -- What the proof of `read_utf` uses to show that no form begins rejected bytes.
-pub ruleset refused_forms = (none_begins_truncated, refused_as)
+pub ruleset no_form_begins = (none_begins_truncated, none_begins_rejected)

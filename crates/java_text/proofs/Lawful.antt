@@ -61,38 +61,38 @@ first_begins text texts rest have = record {
 }
 
 -- Forms are read as their texts, and then the rest as its texts.
-read_on : (texts more : List (List ℕ)) (rest : List ℕ) → HaveForms texts → AreReadInTurn rest more →
+read_after : (texts more : List (List ℕ)) (rest : List ℕ) → HaveForms texts → AreReadInTurn rest more →
     AreReadInTurn (flat_map java_form texts ++ rest) (texts ++ more)
-read_on [] more rest have read = read
-read_on (text ∷ texts) more rest have read =
-    (flat_map java_form texts ++ rest, first_begins text texts rest have, read_on texts more rest have.2 read)
+read_after [] more rest have read = read
+read_after (text ∷ texts) more rest have read =
+    (flat_map java_form texts ++ rest, first_begins text texts rest have, read_after texts more rest have.2 read)
 
 -- Whatever the bytes are read as begins with the texts of these forms.
-only_so : OneForm → (texts all : List (List ℕ)) (rest : List ℕ) → HaveForms texts →
+only_these : OneForm → (texts all : List (List ℕ)) (rest : List ℕ) → HaveForms texts →
     AreReadInTurn (flat_map java_form texts ++ rest) all →
     (more : List (List ℕ)) × (all ≡ texts ++ more) × AreReadInTurn rest more
-only_so one_form [] all rest have read = (all, refl, read)
-only_so one_form (text ∷ texts) [] rest have read =
+only_these one_form [] all rest have read = (all, refl, read)
+only_these one_form (text ∷ texts) [] rest have read =
     absurd (empty_has_none_law _ _ (subst (λ bs. BeginsWithForm bs text (flat_map java_form texts ++ rest)) read
     (first_begins text texts rest have)))
-only_so one_form (text ∷ texts) (other ∷ others) rest have read =
+only_these one_form (text ∷ texts) (other ∷ others) rest have read =
     let same = one_form _ _ _ (first_begins text texts rest have) other read.0 read.1 in
-    let found = only_so one_form texts others rest have.2 (subst (λ bs. AreReadInTurn bs others) same.1 read.2) in
+    let found = only_these one_form texts others rest have.2 (subst (λ bs. AreReadInTurn bs others) same.1 read.2) in
     (found.0, ap (λ t. t ∷ others) same.0 ∙ ap (λ ts. text ∷ ts) found.1, found.2)
 
 -- Bytes that begin with some forms are read as their texts, and then as the rest is read.
 pub rest_is_read_law : OneForm → RestIsRead
 rest_is_read_law one_form bytes texts rest so_far all = (
-  (λ read. only_so one_form texts all rest so_far.have_forms (subst (λ bs. AreReadInTurn bs all) so_far.bytes_are read)),
-  (λ found. rw (so_far.bytes_are, found.1) (read_on texts found.0 rest so_far.have_forms found.2)),
+  (λ read. only_these one_form texts all rest so_far.have_forms (subst (λ bs. AreReadInTurn bs all) so_far.bytes_are read)),
+  (λ found. rw (so_far.bytes_are, found.1) (read_after texts found.0 rest so_far.have_forms found.2)),
 )
 
 -- If no form begins the rest, the bytes are read as these texts alone.
 pub none_follows_law : OneForm → NoneFollows
 none_follows_law one_form bytes texts rest so_far none all =
-    let read_so = rest_is_read_law one_form bytes texts rest so_far all in (
-      (λ read. let found = read_so.0 read in by found.0 found.1 found.2),
-      (λ ends. read_so.1 ([], ends.0 ∙ sym (append-nil texts), ends.1)),
+    let follows = rest_is_read_law one_form bytes texts rest so_far all in (
+      (λ read. let found = follows.0 read in by found.0 found.1 found.2),
+      (λ ends. follows.1 ([], ends.0 ∙ sym (append-nil texts), ends.1)),
     )
   where
     by : (more : List (List ℕ)) → all ≡ texts ++ more → AreReadInTurn rest more → (all ≡ texts) × (rest ≡ [])

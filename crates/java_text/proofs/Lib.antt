@@ -1,3 +1,4 @@
+-- The lemmas of this crate, in reading order.
 pub mod Forms
 pub mod Lawful
 pub mod FormSlices
