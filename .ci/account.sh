@@ -2,33 +2,37 @@
 # for what it notes.
 # shellcheck shell=bash disable=SC2154
 
-# Notes every two seconds how much of the processors' time each check of `rt ci` and of edits has taken,
-# until it is ended. What a check takes after the last look at it is missed: `note_checks TREE ROOM`, the
-# folder where `rt ci` runs, and the one where it makes a copy for some crates.
+# Notes every five seconds how much of the processors' time each check of `rt ci` has taken, until it is
+# ended: PROCESS TICKS PART. What a check takes after the last look at it is missed, and so is a process
+# that takes less than half a second: `note_checks TREE ROOM`, the folder where `rt ci` runs, and the one
+# where it makes a copy for some crates.
 note_checks() {
-    local stat pid line fields process
-    local -A part=() ticks=()
-    while sleep 2; do
-        for stat in /proc/[0-9]*/stat; do
-            { read -r line <"$stat"; } 2>/dev/null || continue
-            pid=${stat//[!0-9]/}
-            # The name of a process is in brackets, and may have spaces. The system reuses numbers, so the
-            # time at which a process started is compared too.
-            read -r -a fields <<<"${line##*) }"
-            process=$pid.${fields[19]}
-            [[ -n ${part[$process]-} ]] || part[$process]=$(part_of "$pid" "$1" "$2")
-            [[ -n ${part[$process]} ]] || part[$process]=none
-            [[ ${part[$process]} != none ]] || continue
-            ticks[$process]=$((fields[11] + fields[12]))
-        done
-        for process in "${!ticks[@]}"; do
-            echo "${ticks[$process]} ${part[$process]}"
-        done >"$scratch/checks.new"
-        mv "$scratch/checks.new" "$scratch/checks"
+    local process ticks hertz
+    local -A part=()
+    hertz=$(getconf CLK_TCK)
+    while sleep 5; do
+        while read -r process ticks; do
+            [[ -n ${part[$process]-} ]] || part[$process]=$(part_of "${process%.*}" "$1" "$2")
+            [[ ${part[$process]} == none ]] || echo "$process $ticks ${part[$process]}"
+        done < <(list_processes $((hertz / 2))) >>"$scratch/checks"
     done
 }
 
-# The crate that a process works for, and at what: `part_of PID TREE ROOM`.
+# Prints the processes that have taken at least so many ticks: PID.START TICKS. The system reuses numbers, so
+# the time at which a process started is part of its name here: `list_processes LEAST`.
+list_processes() {
+    # A process may end before it is read.
+    cat /proc/[0-9]*/stat 2>/dev/null | awk -v least="$1" '
+        {
+            pid = $1
+            # The name of the program is in brackets, and may have spaces.
+            sub(/^.*\) /, "")
+            if ($12 + $13 >= least) print pid "." $20, $12 + $13
+        }
+    '
+}
+
+# The crate that a process of `rt ci` works for, and at what, or `none`: `part_of PID TREE ROOM`.
 part_of() {
     local at words
     {
@@ -36,10 +40,6 @@ part_of() {
         words=$(tr '\0' ' ' <"/proc/$1/cmdline")
     } 2>/dev/null
     case $at/ in
-        "$scratch"/rounds/*)
-            at=${at#"$scratch/rounds/"}
-            echo "${at%%/*}: edits"
-            ;;
         "$2"/crates/* | "$3"/rt-copy*/crates/*)
             at=${at##*/crates/}
             if [[ $words == *' --test '* ]]; then
@@ -48,6 +48,7 @@ part_of() {
                 echo "${at%%/*}: proof"
             fi
             ;;
+        *) echo none ;;
     esac
 }
 
@@ -94,8 +95,11 @@ show_account() {
     echo '== processor minutes by part'
     {
         awk -v hertz="$(getconf CLK_TCK)" '
-            { spent = $1; sub(/^[0-9]+ /, ""); sum[$0] += spent }
-            END { for (part in sum) printf "%6.1f  %s\n", sum[part] / hertz / 60, part }
+            { process = $1; spent[process] = $2; sub(/^[^ ]+ [0-9]+ /, ""); part[process] = $0 }
+            END {
+                for (process in part) sum[part[process]] += spent[process]
+                for (it in sum) printf "%6.1f  %s\n", sum[it] / hertz / 60, it
+            }
         ' "$scratch/checks"
         awk '{ spent = $1; sub(/^[0-9]+ /, ""); printf "%6.1f  %s\n", spent / 60, $0 }' "$scratch/script_seconds"
     } | sort -rn

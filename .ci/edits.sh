@@ -4,9 +4,10 @@
 #
 # Most of a check is loading, so one check tries several edits, which change a function of their own each:
 # a round, as rounds.awk lays them. An edit counts as refused only if a goal of its own function is false,
-# which told.awk finds in what the check says. What a round doesn't refuse is tried again, as a round of
-# its own, and at last each edit alone: the kit leaves goals of a function untried where one that it calls
-# is not proved, and an edit that can't be read spoils its round.
+# which told.awk finds in what the check says. A round is first checked as far as its functions need, if it
+# changes nothing else. What it doesn't refuse is tried again by a check of the whole crate, as a round of
+# its own, and at last each edit alone: the kit leaves goals of a function untried if one that it calls is
+# not proved, and an edit that can't be read spoils its round.
 
 # The crates, each after those that it uses.
 listed_crates() {
@@ -29,6 +30,19 @@ used_by() {
     done
 }
 
+# Whether a crate is a program, or a library that only programs and crates of tests use. Nothing that is
+# proved in the copy `scripts` needs a proof of it, so its edits are tried without one.
+is_of_programs() {
+    local user is_used=''
+    [[ ! -e crates/$1/src/main.rt ]] || return 0
+    for user in $(listed_crates); do
+        grep -qxF "$1" <(used_by "$user") || continue
+        [[ -e crates/$user/src/main.rt || $user == *_tests ]] || return 1
+        is_used=yes
+    done
+    [[ -n $is_used ]]
+}
+
 # Tries the edits of crates, so many crates at once, and prints for each edit a line `edit CRATE/NAME:
 # refused: WHY`, or `not refused`: `try_edits AT_ONCE CRATE..`.
 try_edits() {
@@ -48,7 +62,7 @@ try_crate() {
     local -a names
     until is_ready "$crate"; do
         [[ ! -e $scratch/proved/failed ]] || return
-        sleep 1
+        sleep 3
     done
     make_tree "$crate"
     mkdir "$plan"
@@ -59,15 +73,17 @@ try_crate() {
         try_round "$(first_check "$crate" "${names[@]}")" "$crate" "${names[@]}"
     done <"$plan/rounds"
     rm -rf "$scratch/rounds/$crate"
+    # This runs in a shell of its own, whose children are those of these edits.
+    note_seconds "$crate: edits"
 }
 
-# Whether what a crate uses is proved, and the crate itself where it is a library.
+# Whether what a crate uses is proved, and the crate itself if a proof of it is needed.
 is_ready() {
     local name
     for name in $(used_by "$1"); do
         [[ -e $scratch/proved/$name ]] || return 1
     done
-    [[ -e crates/$1/src/main.rt || -e $scratch/proved/$1 ]]
+    is_of_programs "$1" || [[ -e $scratch/proved/$1 ]]
 }
 
 # Makes a tree in which a crate is checked over the proved libraries, with what was kept of its own proof:
@@ -106,13 +122,10 @@ functions_of() {
     ' "${owners[@]/#/$scratch/rounds/$1.plan/}"
 }
 
-# How a round is checked first: `only` or `whole`, for `first_check CRATE NAME..`.
+# How a round is checked first: `only` or `whole`, for `first_check CRATE NAME..`. A check of functions alone
+# reads far less than a whole one. An edit of something else needs all of the crate.
 first_check() {
-    if [[ -e $scratch/scripts/crates/$1/src/main.rt ]] && functions_of "$@" >/dev/null; then
-        echo only
-    else
-        echo whole
-    fi
+    if functions_of "$@" >/dev/null; then echo only; else echo whole; fi
 }
 
 # Lays edits of a crate into its tree, checks it once, and says which are refused. `only` checks the functions

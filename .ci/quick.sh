@@ -70,7 +70,7 @@ choose_crates() {
             differing+=("$crate")
         elif ! is_above "$crate"; then
             continue
-        elif [[ -d crates/$crate/specs || $crate == cesu8_cli ]]; then
+        elif [[ -d crates/$crate/specs || $crate == cesu8_cli || $crate == cesu8conv ]]; then
             above+=("$crate")
         fi
         if grep -rqF '#[test]' "crates/$crate/src"; then
@@ -229,16 +229,10 @@ try_tests() {
     note_seconds "tests of $1"
 }
 
-# Tries the edits, and notes their time.
-try_changed_edits() {
-    try_edits 1 "${differing[@]}"
-    note_seconds edits
-}
-
 # Tries the edits, and beside them the tests of two crates at once.
 try_edits_and_tests() {
     local crate
-    try_changed_edits &
+    try_edits 1 "${differing[@]}" &
     for crate in "${tested[@]}"; do
         while (($(jobs -rp | wc -l) > 2)); do wait -n || :; done
         try_tests "$crate" &

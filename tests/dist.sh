@@ -55,7 +55,7 @@ copy_tree() {
     fi
     mkdir "$1" || exit 2
     tar c -C "$top" --exclude=./.git --exclude=./dist --exclude=out . | tar x -C "$1" || exit 2
-    for library in cesu8_text cesu8_bytes cesu8_encode cesu8_decode simd_cesu8 java_text; do
+    for library in cesu8_text cesu8_bytes cesu8_encode cesu8_decode simd_cesu8 java_text cesu8_stream; do
         mkdir "$1/crates/$library/out" || exit 2
         cp -R "$top/crates/$library/out/rlib" "$1/crates/$library/out" || exit 2
     done

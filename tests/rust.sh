@@ -45,9 +45,10 @@ version=$(<"$top/VERSION")
 packages=$scratch/packages
 crate=$packages/cesu8_rattle-$version
 # Runs cargo in the crate: `in_crate ARGUMENT..`. What is built is kept in $scratch/NAME of
-# `target`.
+# `target`. What cargo writes for a debugger and for later builds would double the time of a debug build.
 in_crate() {
-    (cd "$crate" && CARGO_TARGET_DIR=$scratch/${target:-target} quietly cargo "$@")
+    (cd "$crate" && CARGO_INCREMENTAL=0 CARGO_PROFILE_DEV_DEBUG=0 \
+        CARGO_TARGET_DIR=$scratch/${target:-target} quietly cargo "$@")
 }
 
 # The packages: those of the release, or new ones.

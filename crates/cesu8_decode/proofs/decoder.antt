@@ -7,13 +7,13 @@ pub mod MaskCounts
 pub mod CoveredMasks
 pub mod WindowMasks
 pub mod FirstLanes
-pub mod LookUps
+pub mod TableLookups
 pub mod FollowingLanes
-pub mod FollowingBlocks
+pub mod ErrorMasks
 pub mod WindowEnds
 pub mod BlocksInPlace
 pub mod Passes
-pub mod FewWindows
+pub mod PaddedWindows
 pub mod EventBits
 pub mod EventsDecoded
 pub mod Events

@@ -35,14 +35,14 @@ pub record AreChanges (f : Flavor) (bytes : List ℕ) (mask : ℕ) : Type 0 wher
   pub marks : Marks mask (is_changed_at f bytes) 0 (length bytes)
   pub whole : (i : ℕ) → i < length bytes → is_ill_formed_at f (window_of bytes) i ≡ false
 
--- The prefix has the length of the unchanged prefix. For at most 64 bytes its mask is the mask of
--- the characters that need conversion, or it is 0 if there are none or a byte is ill-formed.
+-- The length is that of the unchanged prefix. For at most 64 bytes `changed` is the mask of the
+-- characters that need conversion, or it is 0 if there are none or a byte is ill-formed.
 pub record IsUnchangedPrefix (f : Flavor) (bytes : List ℕ) (prefix : UnchangedPrefix) : Type 0 where
   pub len : IsLongestPrefix Unchanged f bytes prefix.len
   pub changes : length bytes ≤ FEW_BYTES → ¬ (prefix.changed ≡ 0) → AreChanges f bytes prefix.changed
   pub none : length bytes ≤ FEW_BYTES → prefix.changed ≡ 0 → prefix.len < length bytes → HasNoStrictReading f bytes
 
--- The prefix is the unchanged prefix, and it is not all of the bytes.
+-- This is the unchanged prefix, and it is not all of the bytes.
 pub record IsProperPrefix (f : Flavor) (bytes : List ℕ) (prefix : UnchangedPrefix) : Type 0 where
   pub found : IsUnchangedPrefix f bytes prefix
   pub more : prefix.len < length bytes

@@ -14,7 +14,7 @@ ghost use Rattle.cesu8_decode.specs.Prefixes.{IsLongestPrefix, IsUnchangedPrefix
 pub mod window;
 
 use crate::lanes::character_set::{CharacterSet, DECIDING, Unchanged};
-use crate::lanes::following::{block_behind, following_len, two_follow};
+use crate::lanes::following::{block_after, following_len, two_follow};
 use crate::strategy::{FEW_BYTES, are_few};
 use cesu8_bytes::BLOCK;
 use cesu8_bytes::flavor::Flavor;
@@ -59,7 +59,7 @@ fn following_many<F: Flavor, S: CharacterSet>(bytes: &[u8]) -> usize
     let run = run_of_groups::<Either<F::Null, NonAscii>>(bytes);
     if run == 0 {
         let block = u8x32::from_slice(bytes);
-        let len = following_len::<F, S>(block_behind(u8x32::splat(0), block));
+        let len = following_len::<F, S>(block_after(u8x32::splat(0), block));
         if len != BLOCK {
             return len;
         }

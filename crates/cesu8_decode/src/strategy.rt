@@ -23,9 +23,9 @@
 //!   only the bytes after the first 4,096.
 //!
 //! Strict decoding of more than 64 bytes to a `String` goes from one converted character to the
-//! next (`destinations::strict_append`) as long as these are far apart: the first after at least 16 bytes
-//! (`FIRST_RUN`), and each later one after at least 64 (`NEXT_RUN`). The rest is decoded by one
-//! window if it has at most 64 bytes, and otherwise by chunks, which use a small array if the
+//! next (`destinations::strict_append`) as long as these are far apart: the first after at least 16
+//! bytes (`FIRST_RUN`), and each later one after at least 64 (`NEXT_RUN`). The rest is decoded by
+//! one window if it has at most 64 bytes, and otherwise by chunks, which use a small array if the
 //! `String` has little capacity left. Before strict decoding starts an array or chunks, it rejects
 //! input that ends within a character.
 

@@ -1,3 +1,4 @@
+-- The lemmas, in reading order. A folder has the proofs of the functions of a source file.
 pub mod Characters
 pub mod Shapes
 pub mod Completions

@@ -8,26 +8,26 @@ use Rattle.std.proofs.lemmas.Str.{encodes-chars, scalars-chars, chars-encodes}
 use Rattle.cesu8_text.specs.Text.{IsScalarValue, IsText, utf8_of, utf8, IsUtf8Of}
 
 -- Both definitions encode a scalar value by the same formulas.
-pub utf8_of_encode : (c : ℕ) → utf8_of c ≡ encode c
+utf8_of_encode : (c : ℕ) → utf8_of c ≡ encode c
 unfolding utf8_of encode
 utf8_of_encode c = refl
 
 -- Both definitions encode a text as the same bytes.
-pub utf8_encodes : (text : List ℕ) → utf8 text ≡ encodes text
+utf8_encodes : (text : List ℕ) → utf8 text ≡ encodes text
 utf8_encodes [] = refl
 utf8_encodes (c ∷ text) = rw (utf8_of_encode c, utf8_encodes text) refl
 
 -- This crate's scalar values are scalar values in std.
-pub scalar_from_IsScalarValue : (c : ℕ) → IsScalarValue c → scalar c ≡ true
+scalar_from_IsScalarValue : (c : ℕ) → IsScalarValue c → scalar c ≡ true
 scalar_from_IsScalarValue c h = grind (arith, nat_tests, low_scalar)
 
 -- Scalar values in std are a text in this crate.
-pub IsText_from_scalars : (text : List ℕ) → scalars text ≡ true → IsText text
+IsText_from_scalars : (text : List ℕ) → scalars text ≡ true → IsText text
 IsText_from_scalars [] e = tt
 IsText_from_scalars (c ∷ text) e = grind (arith, and_parts, scalar_cases, IsText_from_scalars text)
 
 -- A text in this crate consists of scalar values in std.
-pub scalars_from_IsText : (text : List ℕ) → IsText text → scalars text ≡ true
+scalars_from_IsText : (text : List ℕ) → IsText text → scalars text ≡ true
 scalars_from_IsText [] h = refl
 scalars_from_IsText (c ∷ text) h =
     grind (arith, and_from (scalar c) (scalars text), scalar_from_IsScalarValue, scalars_from_IsText text)

@@ -119,6 +119,3 @@ pub none_begins_rejected : (fault : DecodeFault) (bytes : List ℕ) → decoding
     IfRefused (read_fault_of fault) (NoFormBegins bytes)
 none_begins_rejected (Invalid error) bytes h = none_begins_invalid bytes h
 none_begins_rejected (Memory error) bytes h = tt
-
--- What the proof of `read_utf` uses to show that no form begins rejected bytes.
-pub ruleset no_form_begins = (none_begins_truncated, none_begins_rejected)

@@ -124,7 +124,6 @@ pub fn write_utf(text: &str, buf: &mut Vec<u8>) -> Result<(), WriteFault>
 /// assert!(rt; java_text::read_utf(alloc, b"\0\x02A").is_err());
 /// ```
 #[inline]
-#[tactic(auto, using(crate::proofs::Forms::no_form_begins))]
 pub fn read_utf(alloc: Global, bytes: &[u8]) -> Result<(CowText<'_>, &[u8]), ReadFault>
     ensures text { IfRead result (BeginsWithForm bytes.now) }
     ensures only { IfRead result (BeginsOnlyWithForm bytes.now) }

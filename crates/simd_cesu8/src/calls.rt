@@ -13,8 +13,8 @@ ghost use Rattle.simd_cesu8.specs.Calls.{Encodes, DecodesAs, DecodesLossily, Dec
 
 use crate::codec;
 use crate::codec::{
-    Accepts, EncodingAlone, Flavor, Lenient, begins_with_unchanged_ascii, prefix_unless_kept,
-    known_text, needs_encoded,
+    Accepts, EncodingAlone, Flavor, Lenient, begins_with_unchanged_ascii, known_text,
+    needs_encoded, prefix_unless_kept,
 };
 use crate::cow::{CowBytes, CowText};
 use crate::error::DecodeFault;

@@ -1,5 +1,4 @@
-//! The digest of all results of a workload, which the program prints. Two builds of the library must
-//! have equal digests.
+//! The digest of results.
 
 ghost use Rattle.std.specs.Prelude.{◌+◌, ◌≤◌, length};
 
@@ -36,7 +35,6 @@ impl Digest {
             return self.add_few(bytes);
         }
         let mut rest = bytes;
-        // All whole words, and the last eight bytes, which may overlap them.
         if len > 32 {
             while let Some((word, behind)) = rest.split_first_chunk::<8>() {
                 self.add(u64::from_le_bytes(*word));
@@ -51,8 +49,7 @@ impl Digest {
         self.add(word_at(bytes, len - 8));
     }
 
-    /// Adds fewer than eight bytes: the first four and the last four, which may overlap, or each
-    /// byte if there are fewer than four.
+    /// Adds fewer than eight bytes.
     #[inline(always)]
     fn add_few(&mut self, bytes: &[u8]) {
         if let Some((word, _)) = bytes.split_first_chunk::<4>() {

@@ -14,8 +14,7 @@ impl Random {
         Random(Xoshiro256PlusPlus::seed_from_u64(u64::from(seed)))
     }
 
-    /// Returns a number below `count`. The lower ones are a little more frequent if `count` is no
-    /// power of two.
+    /// Returns a number below `count`.
     pub fn below(&mut self, count: u32) -> u32
         requires { 0 < count }
         ensures { result < count }

@@ -20,7 +20,7 @@ lane_of_ones : (t : Bool) → to_z w8 (ones t) ≡ lane t
 lane_of_ones t = grind arith
 
 -- Lanes that are all ones if the byte is in the class, and otherwise 0, are the mask of the class.
-pub marked : (class : ℕ → Bool) (bytes lanes : List ℕ) → lanes ≡ map (λ b. ones (class b)) bytes → map (to_z w8) lanes ≡ marks_of class bytes
+marked : (class : ℕ → Bool) (bytes lanes : List ℕ) → lanes ≡ map (λ b. ones (class b)) bytes → map (to_z w8) lanes ≡ marks_of class bytes
 marked class bytes lanes are =
     ap (map (to_z w8)) are ∙ map-map (to_z w8) (λ b. ones (class b)) bytes
     ∙ map_agree _ _ bytes (Each1-all (λ b. to_z w8 (ones (class b)) ≡ lane (class b)) (λ b. lane_of_ones (class b)) bytes)

@@ -13,13 +13,13 @@ use Rattle.cesu8_decode.specs.Following.{Encoded, Unchanged}
 use Rattle.cesu8_decode.specs.Prefixes.{IsLongestPrefix, AreChanges, is_changed_at}
 use Rattle.cesu8_decode.specs.Masks.{IsWindow, Marks, is_pair_at, is_null_at}
 use Rattle.cesu8_decode.proofs.by_offset.IllFormed.{IsCovered, encoding_covered}
-use Rattle.cesu8_decode.proofs.decoder.MaskBits.{marked, unmarked, marks_fit, bits_from, marks_from, or_bits, told_by}
+use Rattle.cesu8_decode.proofs.decoder.MaskBits.{marked, unmarked, marks_fit, bits_from, marks_from, or_bits, by_equal_test}
 use Rattle.cesu8_decode.proofs.chunks.EventPrefixes.{valid_prefix, unchanged_prefix, none_covers}
 
 -- The bits of both masks together mark the offsets that pass either test.
 either_marks : (p q : ℕ → Bool) (n : ℕ) {a b : ℕ} → Marks a p 0 n → Marks b q 0 n → Marks (bit_or a b) (λ i. p i || q i) 0 n
 either_marks p q n first second =
-    marks_from (λ i. p i || q i) 0 n (told_by (λ i. ltb i n && (p (0 + i) || q (0 + i))) (λ i. spread (ltb i n) (p (0 + i)) (q (0 + i)))
+    marks_from (λ i. p i || q i) 0 n (by_equal_test (λ i. ltb i n && (p (0 + i) || q (0 + i))) (λ i. spread (ltb i n) (p (0 + i)) (q (0 + i)))
     (or_bits (bits_from p 0 n first) (bits_from q 0 n second)))
   where
     spread : (t p q : Bool) → ((t && p) || (t && q)) ≡ (t && (p || q))

@@ -28,12 +28,12 @@ use Rattle.cesu8_decode.proofs.by_offset.CharacterBoundaries.{boundary_of_zeros,
 -- ---- lengths
 
 -- For a byte that is not ill-formed, at most one byte is written.
-one_or_none : (goes : Bool) (b : ℕ) → length (written_for goes false b) ≤ 1
+pub one_or_none : (goes : Bool) (b : ℕ) → length (written_for goes false b) ≤ 1
 one_or_none true b = omega arith
 one_or_none false b = omega arith
 
 -- For any byte, at most the three bytes of U+FFFD are written.
-at_most_three : (goes ill_formed : Bool) (b : ℕ) → length (written_for goes ill_formed b) ≤ 3
+pub at_most_three : (goes ill_formed : Bool) (b : ℕ) → length (written_for goes ill_formed b) ≤ 3
 at_most_three goes ill_formed b = grind (arith, nat_tests, common_steps)
 
 -- What is written for n bytes is at most n bytes if none of them is ill-formed, and otherwise at

@@ -45,8 +45,8 @@ module _ (n k : ℕ) (lowest : IsLowest n k) where
   cleared = grind (arith, less, bit_at_cat_low, bit_at_ones_above, bit_at_and)
 
   -- n & (n - 1) leaves the other bits unchanged.
-  others_stay : (i : ℕ) → i ≢ k → bit_at (bit_and n (n - 1)) i ≡ bit_at n i
-  others_stay i other =
+  others_unchanged : (i : ℕ) → i ≢ k → bit_at (bit_and n (n - 1)) i ≡ bit_at n i
+  others_unchanged i other =
       ⊎_elim (λ (low : i < k). bit_at_and n (n - 1) i ∙ omega (arith, lowest.below i low))
       (λ (high : k ≤ i).
       let longer = pow_below k (1 + k) (omega arith) in
@@ -98,13 +98,13 @@ module _ (changing ill read events : ℕ) (are : AreEvents changing ill read eve
       let was : (i : ℕ) → bit_at left i ≡ 1 → (bit_at events i ≡ 1) × (next < i) = λ i set.
       ⊎_elim (λ (here : i ≡ next). absurd (omega (arith, set, ap (bit_at left) here, cleared events next lowest)))
       (λ (other : ¬ (i ≡ next)).
-      let same = others_stay events next lowest i other in (
+      let same = others_unchanged events next lowest i other in (
         omega (arith, same, set),
         ⊎_elim (λ (low : i < next). absurd (omega (arith, same, set, lowest.below i low))) (λ (high : next ≤ i). omega (arith, other))
             (cases_lt i next),
       ))
       (cases_eq i next) in
-      let stays : (i : ℕ) → next < i → bit_at events i ≡ 1 → bit_at left i ≡ 1 = λ i high set. others_stay events next lowest i (λ here. omega arith) ∙ set in
+      let stays : (i : ℕ) → next < i → bit_at events i ≡ 1 → bit_at left i ≡ 1 = λ i high set. others_unchanged events next lowest i (λ here. omega arith) ∙ set in
       record {
         later = λ i set. let h = was i set in ⊎_elim (λ (low : i < after). absurd (
             let before = inside i (i - 1) (omega (arith, h)) h.1 low in

@@ -22,7 +22,7 @@ use Rattle.cesu8_decode.proofs.by_offset.WindowOffsets.{width_there, decoded_spl
 use Rattle.cesu8_decode.proofs.decoder.EventBits.{IsLowest, AreEvents, all_events, none_before, after_event, unset}
 use Rattle.cesu8_decode.proofs.decoder.MaskBits.{run_ones, run_ends}
 use Rattle.cesu8_decode.proofs.decoder.WindowEnds.{none_changes, pair_set, null_set, ill_set, pair_unset, null_unset, ill_unset, ends_within, none_inside}
-use Rattle.cesu8_decode.proofs.decoder.EventsDecoded.{Stays, kept_decoded, boundary_behind, boundary_behind_ill_formed, ill_formed_decoded, length_replacements}
+use Rattle.cesu8_decode.proofs.decoder.EventsDecoded.{NoEventAt, kept_decoded, boundary_after_character, boundary_after_ill_formed, ill_formed_decoded, length_replacements}
 
 -- The state of the loop: some bytes of the window are read, and their text is written.
 pub record AreRead (f : Flavor) (which : Strictness) (bytes : List ℕ) (at : ℕ) (window : Window) (start : ℕ) (old : List ℕ) (ill read events end : ℕ) (new : List ℕ) : Type 0 where
@@ -86,8 +86,8 @@ module _ {f : Flavor} {which : Strictness} {bytes : List ℕ} {at : ℕ} {window
   ill_bad i set = ill_set is i (ap (λ m. bit_at m i) (sym so_far.ill_formed) ∙ set)
 
   -- The bytes before the next event are in no event.
-  stay_before : (next : ℕ) → next ≤ window.len → ((j : ℕ) → j < next → bit_at events j ≡ 0) → (i : ℕ) → at + read ≤ i → i < at + next → Stays f bytes i
-  stay_before next within none i low inside =
+  no_event_before : (next : ℕ) → next ≤ window.len → ((j : ℕ) → j < next → bit_at events j ≡ 0) → (i : ℕ) → at + read ≤ i → i < at + next → NoEventAt f bytes i
+  no_event_before next within none i low inside =
       let both = none_before (bit_or window.pairs window.nulls) ill read events so_far.left next none (i - at) (omega arith) (omega arith) in
       let ors = bit_at_or window.pairs window.nulls (i - at) in
       record {
@@ -102,7 +102,7 @@ module _ {f : Flavor} {which : Strictness} {bytes : List ℕ} {at : ℕ} {window
       WritesAt (decoded f (window_of bytes) at next) start old mid copied × (copied ≤ start + most_written which next)
   copied_to next copied mid low within none copy =
       let all : read + (next - read) ≡ next = omega arith in
-      let kept = kept_decoded f bytes (at + read) (next - read) (omega (arith, long)) so_far.boundary (λ i low inside. stay_before next within none i low (omega arith)) in
+      let kept = kept_decoded f bytes (at + read) (next - read) (omega (arith, long)) so_far.boundary (λ i low inside. no_event_before next within none i low (omega arith)) in
       let more = subst (λ bs. WritesAt bs end new mid copied) kept copy in
       let both = written_behind (decoded f (window_of bytes) at read) (decoded f (window_of bytes) (at + read) (next - read)) old new mid start end copied so_far.text more in (
         subst (λ bs. WritesAt bs start old mid copied) (sym (decoded_split f (window_of bytes) at read (next - read)) ∙ ap (decoded f (window_of bytes) at) all) both,
@@ -209,7 +209,7 @@ module _ {f : Flavor} {which : Strictness} {bytes : List ℕ} {at : ℕ} {window
                   (no_bits so_far.holds i none.0 none.1, inr (ones j (omega arith) (omega arith))))
                   (λ j there. inl (ap (λ m. bit_at ill (next + m)) run ∙ run_ends ill next ill_fits));
               within = omega (arith, final.0, is.len.0);
-              boundary = ap (is_boundary_at f (window_of bytes)) (sym behind) ∙ boundary_behind_ill_formed f bytes (at + (next + n - 1)) final.1;
+              boundary = ap (is_boundary_at f (window_of bytes)) (sym behind) ∙ boundary_after_ill_formed f bytes (at + (next + n - 1)) final.1;
               text = joined n (subst (λ bs. WritesAt bs copied mid last after) are replaced);
               most = omega (arith, replaced.end, length_replacements n, before.1, most);
             }
@@ -243,7 +243,7 @@ module _ {f : Flavor} {which : Strictness} {bytes : List ℕ} {at : ℕ} {window
                   (no_bits so_far.holds i none.0 none.1, inl (covered i (omega arith) inside)))
                   (λ j there. inr (covered j (omega arith) (omega arith)));
               within = within;
-              boundary = ap (is_boundary_at f (window_of bytes)) behind ∙ boundary_behind f bytes (at + next) m (omega (arith, long, within)) some (width_there f bytes (at + next) ∙ sym wide);
+              boundary = ap (is_boundary_at f (window_of bytes)) behind ∙ boundary_after_character f bytes (at + next) m (omega (arith, long, within)) some (width_there f bytes (at + next) ∙ sym wide);
               text = joined m changed;
               most = omega (arith, few, before.1, most_more which next m);
             }

@@ -71,7 +71,7 @@ no_cover : (w0 w1 w2 w3 w4 w5 : ℕ) → w0 ≤ 0 → w1 ≤ 1 → w2 ≤ 2 → 
 no_cover w0 w1 w2 w3 w4 w5 h0 h1 h2 h3 h4 h5 fine = grind (arith, nat_tests)
 
 -- No event is at the offset.
-pub record Stays (f : Flavor) (bytes : List ℕ) (i : ℕ) : Type 0 where
+pub record NoEventAt (f : Flavor) (bytes : List ℕ) (i : ℕ) : Type 0 where
   pub pair : is_pair_at f bytes i ≡ false
   pub null : is_null_at f bytes i ≡ false
   pub fine : is_ill_formed_at f (window_of bytes) i ≡ false
@@ -126,7 +126,7 @@ module _ (f : Flavor) (bytes : List ℕ) where
     no_lone_lead i low inside null fine lead = grind (arith, nat_tests, byte_there, byte_after, lead_first, lead_second, no_pair_at, lead_third, no_cover)
 
   -- After a boundary, each of n bytes at which no event is becomes itself.
-  kept_at : (at n : ℕ) → is_boundary_at f (window_of bytes) at ≡ true → ((i : ℕ) → at ≤ i → i < at + n → Stays f bytes i) →
+  kept_at : (at n : ℕ) → is_boundary_at f (window_of bytes) at ≡ true → ((i : ℕ) → at ≤ i → i < at + n → NoEventAt f bytes i) →
       (i : ℕ) → at ≤ i → i < at + n → decoded_at f (window_of bytes) i ≡ get_or bytes i 0 ∷ []
   kept_at at n boundary stay i low inside =
       plain_at at n boundary (λ i low inside. (stay i low inside).pair) i low inside (stay i low inside).null (λ j low there. (stay j low (omega arith)).null) (stay i low inside).fine
@@ -139,7 +139,7 @@ module _ (f : Flavor) (bytes : List ℕ) where
   kept_range at (suc n) fits kept = grind (arith, nat_tests, drop-cons, kept_range (at + 1) n (omega arith) (λ i low inside. kept i (omega arith) (omega arith)))
 
   -- After a boundary, bytes in which no event begins are unchanged.
-  pub kept_decoded : (at n : ℕ) → at + n ≤ length bytes → is_boundary_at f (window_of bytes) at ≡ true → ((i : ℕ) → at ≤ i → i < at + n → Stays f bytes i) →
+  pub kept_decoded : (at n : ℕ) → at + n ≤ length bytes → is_boundary_at f (window_of bytes) at ≡ true → ((i : ℕ) → at ≤ i → i < at + n → NoEventAt f bytes i) →
       take n (drop at bytes) ≡ decoded f (window_of bytes) at n
   kept_decoded at n fits boundary stay = kept_range at n fits (kept_at at n boundary stay)
 
@@ -156,8 +156,8 @@ module _ (f : Flavor) (bytes : List ℕ) where
       (cases_lt (i + s) 5))
 
   -- No character crosses the end of another.
-  pub boundary_behind : (i m : ℕ) → i + m ≤ length bytes → 0 < m → w (i + 5) ≡ m → is_boundary_at f (window_of bytes) (i + m) ≡ true
-  boundary_behind i m fits some is =
+  pub boundary_after_character : (i m : ℕ) → i + m ≤ length bytes → 0 < m → w (i + 5) ≡ m → is_boundary_at f (window_of bytes) (i + m) ≡ true
+  boundary_after_character i m fits some is =
       boundary_where f (window_of bytes) (i + m) (λ s small.
       let q = i + m + s in
       ⊎_elim (λ (early : q < 5). omega (arith, zero_width f (window_of bytes) q (zeros_before bytes q early)))
@@ -177,8 +177,8 @@ module _ (f : Flavor) (bytes : List ℕ) where
       (cases_lt q 5))
 
   -- No character crosses the offset after an ill-formed byte.
-  pub boundary_behind_ill_formed : (i : ℕ) → is_ill_formed_at f (window_of bytes) i ≡ true → is_boundary_at f (window_of bytes) (i + 1) ≡ true
-  boundary_behind_ill_formed i ill =
+  pub boundary_after_ill_formed : (i : ℕ) → is_ill_formed_at f (window_of bytes) i ≡ true → is_boundary_at f (window_of bytes) (i + 1) ≡ true
+  boundary_after_ill_formed i ill =
       boundary_where f (window_of bytes) (i + 1) (λ s small.
       let offset : i + 1 + s ≡ i + (1 + s) = omega arith in
       omega (arith, not_reached f (window_of bytes) i ill (1 + s) (omega arith), ap w offset))
@@ -193,7 +193,7 @@ module _ (f : Flavor) (bytes : List ℕ) where
       let rest = drop at bytes in
       let behind = drop (at + m) bytes in
       let here = boundary_before at (omega arith) (omega (arith, is)) in
-      let there = boundary_behind at m fits some is in
+      let there = boundary_after_character at m fits some is in
       let all : m + length behind ≡ length rest = omega (arith, length-drop at bytes, length-drop (at + m) bytes, fits) in
       append_cancel_right (decoded f window at m) written (utf8 (reading f behind))
       (ap (λ bs. decoded f window at m ++ bs) (sym (decoded_from_boundary f window behind (at + m) (follows_later window bytes 5 (at + m) (follows_zeros bytes)) there))

@@ -16,7 +16,7 @@ use Rattle.cesu8_bytes.proofs.lists.Stored.{first_written, written_behind}
 use Rattle.cesu8_bytes.proofs.vectors.Loads.{loaded}
 use Rattle.std.proofs.Math.Nat.{div-le_self}
 use Rattle.cesu8_text.specs.Encoding.{Flavor}
-use Rattle.cesu8_decode.specs.DecodedOffsets.{window_of, is_boundary_at, is_ill_formed_at, decoded_at, decoded}
+use Rattle.cesu8_decode.specs.DecodedOffsets.{window_of, is_ill_formed_at, decoded_at, decoded}
 use Rattle.cesu8_decode.specs.Masks.{HoldWindow, IsWindow, is_null_at, is_pair_at}
 use Rattle.cesu8_decode.specs.declared.lanes.windows.Window.{Window}
 use Rattle.cesu8_decode.proofs.by_offset.WindowOffsets.{decoded_split}
@@ -24,6 +24,7 @@ use Rattle.cesu8_decode.proofs.chunks.Changed.{null_lead}
 use Rattle.cesu8_decode.proofs.decoder.EventBits.{unset, shifted_first, shifted_next}
 use Rattle.cesu8_decode.proofs.decoder.MaskBits.{rest_bit, marks_fit}
 use Rattle.cesu8_decode.proofs.decoder.WindowEnds.{none_changes, null_set, ill_set, pair_unset, null_unset, ill_unset, none_in_window, ends_within, none_inside}
+use Rattle.cesu8_decode.proofs.decoder.BlocksInPlace.{one_or_none, at_most_three}
 use Rattle.cesu8_decode.proofs.decoder.EventsDecoded.{plain_at, no_lone_lead, null_wide, null_at_decoded, replaced_at}
 use Rattle.cesu8_bytes.specs.Packing.{written_for, written}
 
@@ -216,8 +217,8 @@ module _ {f : Flavor} {bytes : List ℕ} {at : ℕ} {window : Window} (holds : H
   next_bit : (i : ℕ) → i < 64 → bit_at window.nulls i ≡ 0 → bit_at left_out (i + 1) ≡ 0
   next_bit i small unset = grind (arith, nat_tests, shifted_next, bit_at_above)
 
-  stays_packed : (i : ℕ) → bit_at left_out i ≡ 0 → byte i ≢ 0xC0 → packed i ≡ byte i ∷ []
-  stays_packed i unset other = rw (unset, ne_eqb (byte i) 0xC0 other) refl
+  unchanged_packed : (i : ℕ) → bit_at left_out i ≡ 0 → byte i ≢ 0xC0 → packed i ≡ byte i ∷ []
+  unchanged_packed i unset other = rw (unset, ne_eqb (byte i) 0xC0 other) refl
 
   lead_packed : (i : ℕ) → bit_at left_out i ≡ 0 → byte i ≡ 0xC0 → packed i ≡ 0 ∷ []
   lead_packed i unset lead = rw (unset, lead) refl
@@ -263,7 +264,7 @@ module _ {f : Flavor} {bytes : List ℕ} {at : ℕ} {window : Window} (holds : H
       let plain = plain_at f bytes at window.len holds.boundary pair_none (at + i) (omega arith) (omega arith) null
       (λ j low there. let here : j ≡ at + (j - at) = omega arith in
       ap (is_null_at f bytes) here ∙ before (j - at) (omega arith)) fine in
-      let first = stays_packed i clear lone ∙ sym plain in
+      let first = unchanged_packed i clear lone ∙ sym plain in
       let after : at + (i + 1) ≡ at + i + 1 = omega arith in
       let rest =
       packed_from m r (i + 1) (omega arith) (omega arith) (next_bit i (omega (arith, is.fits)) none_here)
@@ -290,16 +291,12 @@ module _ {f : Flavor} {bytes : List ℕ} {at : ℕ} {window : Window} (holds : H
       written_clear : bit_at left_out i ≡ 0 → packed i ≡ cond (eqb (byte i) 0xC0) 0 (byte i) ∷ []
       written_clear clear = rw clear refl
 
-  packed_most : (t : Bool) (b : ℕ) → length (written_for t false b) ≤ 1
-  packed_most true b = omega arith
-  packed_most false b = omega arith
-
   pub nulls_packed : Packs f bytes at window packed 1
   nulls_packed = record {
     text = packed_from window.len window.len 0 (omega arith) (omega arith) (shifted_first window.nulls) (λ j never. absurd (omega arith))
         ∙ ap (λ k. decoded f (window_of bytes) k window.len) (add-zero at);
     after = one_after;
-    most = λ i. packed_most (eqb (bit_at left_out i) 1) (cond (eqb (byte i) 0xC0) 0 (byte i));
+    most = λ i. one_or_none (eqb (bit_at left_out i) 1) (cond (eqb (byte i) 0xC0) 0 (byte i));
   }
 
   -- The next block is stored after the blocks before it.
@@ -351,22 +348,14 @@ module _ {f : Flavor} {bytes : List ℕ} {at : ℕ} {window : Window} (holds : H
       (ill_unset holds.is_window (at + i) (omega arith) (omega arith) (ap (bit_at window.ill_formed) there ∙ clear))))
       (cases_eq (bit_at window.ill_formed i) 1)
 
-  one_stored : (i : ℕ) → window.len ≤ i → length (stored i) ≡ 1
-  one_stored i past =
-      ap length (kept_one i (unset window.ill_formed i (λ set.
-      omega (arith, past, holds.is_window.len, (ill_set holds.is_window i set).0))))
-
-  stored_most_of : (t : Bool) (b : ℕ) → length (written_for false t b) ≤ 3
-  stored_most_of true b = omega arith
-  stored_most_of false b = omega arith
-
   pub replaced_packed : Packs f bytes at window stored 3
   unfolding decoded
   replaced_packed = record {
     text = range_same stored (decoded_at f (window_of bytes)) 0 at window.len (λ k small.
         ap stored (zero-add k) ∙ stored_at k small);
-    after = λ i past small. one_stored i past;
-    most = λ i. stored_most_of (eqb (bit_at window.ill_formed i) 1) (get_or bytes (at + i) 0);
+    after = λ i past small.
+        ap length (kept_one i (unset window.ill_formed i (λ set. omega (arith, past, holds.is_window.len, (ill_set holds.is_window i set).0))));
+    most = λ i. at_most_three false (eqb (bit_at window.ill_formed i) 1) (get_or bytes (at + i) 0);
   }
 
   -- The next sixteen bytes are stored after those before them.

@@ -29,19 +29,19 @@ pub rows_are : (set : ℕ) → set < 0x10 → get_or ROWS set [] ≡ shuffle_kee
 unfolding same_list same_rows
 rows_are set small = grind (arith, same_list_is, agree_below_at, same_rows)
 
-few_of_four : (set : ℕ) → set < 0x100 → length (kept_by set) ≤ 12
+four_at_most : (set : ℕ) → set < 0x100 → length (kept_by set) ≤ 12
 unfolding is_short
-few_of_four = at_most kept_by 12 refl
+four_at_most = at_most kept_by 12 refl
 
 module _ (row : List ℕ) (set : ℕ) (small : set < 0x10) (row_is : row ≡ shuffle_keeping (kept_of 0 set 0 4)) where
   -- A row packs at most twelve bytes.
   pub end_of_four : get_or row 15 0 ≤ 12
-  end_of_four = end_of_row 4 0 set 12 row row_is (few_of_four set (omega arith)) (omega arith)
+  end_of_four = end_of_row 4 0 set 12 row row_is (four_at_most set (omega arith)) (omega arith)
 
   -- What a row packs is what is written for the four bytes.
   pub four_written : (lanes out packed : List ℕ) (at : ℕ) → at + 16 ≤ length out → packed ≡ lanes_at lanes row →
       WritesAt (lanes_at lanes (kept_of 0 set 0 4)) at out (put_chunk at out packed) (at + get_or row 15 0)
-  four_written = row_written 4 0 set 12 row row_is (few_of_four set (omega arith)) (omega arith)
+  four_written = row_written 4 0 set 12 row row_is (four_at_most set (omega arith)) (omega arith)
 
 -- The lanes hold four bytes, and then a replacement character.
 abbrev HasFour : (lanes four : List ℕ) → Type 0

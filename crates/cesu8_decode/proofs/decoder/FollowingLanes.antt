@@ -6,7 +6,7 @@ use Rattle.cesu8_text.specs.Class.{is_null}
 use Rattle.cesu8_text.specs.Encoding.{Flavor, Cesu8, Mutf8}
 use Rattle.cesu8_bytes.specs.Kernels.{mask}
 use Rattle.cesu8_decode.specs.Following.{table_bits}
-use Rattle.cesu8_decode.proofs.decoder.LookUps.{half, half_tests, told_alike, and_false}
+use Rattle.cesu8_decode.proofs.decoder.TableLookups.{half, half_tests, bits_by_halves, and_false}
 use Rattle.cesu8_decode.proofs.decoder.FirstLanes.{on_range, lanes_are, lane_fits}
 use Rattle.cesu8_decode.specs.Following.{CharacterSet, Encoded, Unchanged, has_changed, first_low, rule, pair_class, later}
 use Rattle.cesu8_decode.specs.declared.lanes.character_set.Rule.{Rule}
@@ -16,8 +16,8 @@ use Rattle.cesu8_bytes.proofs.lists.Lanes.{ones}
 -- ---- the class of a pair, by three look-ups
 
 -- The bits that three table entries of a set have in common.
-abbrev pub told_by : Rule → ℕ → ℕ → ℕ
-told_by t = table_bits t.by_high t.by_low t.by_next
+abbrev pub by_equal_test : Rule → ℕ → ℕ → ℕ
+by_equal_test t = table_bits t.by_high t.by_low t.by_next
 
 low_half : (s : CharacterSet) (b : ℕ) → leb (first_low s) (half b) ≡ leb (first_low s) b
 low_half Encoded b = (half_tests b 0xB).0
@@ -29,10 +29,10 @@ by_half s a b =
     let test = half_tests b in
     rw ((test 8).0, low_half s b, (test 0xA).1, (test 0xC).1) refl
 
-told_is : (s : CharacterSet) (a b : ℕ) → a < 0x100 → b < 0x100 → told_by (rule s) a b ≡ pair_class s Cesu8 a b
+table_bits_is : (s : CharacterSet) (a b : ℕ) → a < 0x100 → b < 0x100 → by_equal_test (rule s) a b ≡ pair_class s Cesu8 a b
 unfolding pair_class
-told_is Encoded = told_alike ENCODED.by_high ENCODED.by_low ENCODED.by_next (pair_class Encoded Cesu8) refl (by_half Encoded)
-told_is Unchanged = told_alike UNCHANGED.by_high UNCHANGED.by_low UNCHANGED.by_next (pair_class Unchanged Cesu8) refl (by_half Unchanged)
+table_bits_is Encoded = bits_by_halves ENCODED.by_high ENCODED.by_low ENCODED.by_next (pair_class Encoded Cesu8) refl (by_half Encoded)
+table_bits_is Unchanged = bits_by_halves UNCHANGED.by_high UNCHANGED.by_low UNCHANGED.by_next (pair_class Unchanged Cesu8) refl (by_half Unchanged)
 
 -- The class bits that are kept in MUTF-8: all but 10 for a second byte 80, if the set has C0 80.
 abbrev kept_of : CharacterSet → ℕ → ℕ
@@ -67,13 +67,13 @@ mutf8_is s a b ha =
 
 -- In CESU-8 the look-ups give the class of each pair of bytes.
 pub cesu8_lanes : (s : CharacterSet) (first second : List ℕ) → length first ≡ 32 → length second ≡ 32 → Each1 (Fits w8) first → Each1 (Fits w8) second →
-    zip2 (told_by (rule s)) first second ≡ zip2 (pair_class s Cesu8) first second
+    zip2 (by_equal_test (rule s)) first second ≡ zip2 (pair_class s Cesu8) first second
 cesu8_lanes s first second long long_second fits_first fits_second =
     let a = λ (i : ℕ). get_or first i 0 in
     let b = λ (i : ℕ). get_or second i 0 in
     rw (lanes_are first long, lanes_are second long_second)
-    (on_range (λ i. told_by (rule s) (a i) (b i)) (λ i. pair_class s Cesu8 (a i) (b i)) 0 32
-    (λ i low inside. told_is s (a i) (b i) (lane_fits first long fits_first i inside) (lane_fits second long_second fits_second i inside)))
+    (on_range (λ i. by_equal_test (rule s) (a i) (b i)) (λ i. pair_class s Cesu8 (a i) (b i)) 0 32
+    (λ i low inside. table_bits_is s (a i) (b i) (lane_fits first long fits_first i inside) (lane_fits second long_second fits_second i inside)))
 
 -- An encoding that is not MUTF-8 is CESU-8.
 pub cesu8_unless : (f : Flavor) → ¬ (f ≡ Mutf8) → f ≡ Cesu8
@@ -82,7 +82,7 @@ cesu8_unless f other = grind arith
 -- In MUTF-8 the look-ups give the class, corrected for second bytes 00 and 80.
 pub mutf8_lanes : (s : CharacterSet) (first second kept nulls : List ℕ) → length first ≡ 32 → length second ≡ 32 →
     Each1 (Fits w8) first → Each1 (Fits w8) second → kept ≡ map (kept_of s) second → nulls ≡ map (λ b. mask (is_null Mutf8 b)) second →
-    zip2 bit_or (zip2 bit_and (zip2 (told_by (rule s)) first second) kept) nulls ≡ zip2 (pair_class s Mutf8) first second
+    zip2 bit_or (zip2 bit_and (zip2 (by_equal_test (rule s)) first second) kept) nulls ≡ zip2 (pair_class s Mutf8) first second
 mutf8_lanes s first second kept nulls long long_second fits_first fits_second kept_are nulls_are =
     let a = λ (i : ℕ). get_or first i 0 in
     let b = λ (i : ℕ). get_or second i 0 in
@@ -129,17 +129,17 @@ both : (third lead second : Bool) →
     bit_or (cond third 0x80 0) (bit_and (bit_and (mask lead) (mask second)) 0x20) ≡ cond third 0x80 0 + cond (lead && second) 0x20 0
 both third lead second = grind (arith, cases_Bool)
 
-abbrev wanted_lanes : ℕ → (later lead second : List ℕ) → List ℕ
-wanted_lanes n later lead second =
+abbrev required_lanes : ℕ → (later lead second : List ℕ) → List ℕ
+required_lanes n later lead second =
     zip2 bit_or later (zip2 bit_and (zip2 bit_and lead second) (replicate n 0x20))
 
 -- The class that is required by three bytes, for sets with and without surrogate pairs, and its
 -- lanes.
-abbrev wanted_if : CharacterSet → Bool → (a b d : ℕ) → ℕ
-wanted_if s pairs a b d = later d + cond (pairs && (eqb a 0xED && (leb 0xA0 b && ltb b 0xB0))) 0x20 0
+abbrev required_if : CharacterSet → Bool → (a b d : ℕ) → ℕ
+required_if s pairs a b d = later d + cond (pairs && (eqb a 0xED && (leb 0xA0 b && ltb b 0xB0))) 0x20 0
 
 abbrev wants : CharacterSet → Bool → (four three two : List ℕ) → List ℕ
-wants s pairs four three two = zip2 (λ want d. want d) (zip2 (wanted_if s pairs) four three) two
+wants s pairs four three two = zip2 (λ want d. want d) (zip2 (required_if s pairs) four three) two
 
 module _ (s : CharacterSet) where
   -- Without surrogate pairs only third bytes are required.
@@ -151,15 +151,15 @@ module _ (s : CharacterSet) where
       (on_range alone (λ i. alone i + 0) 0 32 (λ i low inside. sym (add-zero (alone i))))
 
   -- With surrogate pairs, the second byte of a low surrogate is required too.
-  pub wanted_are : has_changed s ≡ true → (four three two later_lanes lead second : List ℕ) → length four ≡ 32 → length three ≡ 32 → length two ≡ 32 → Each1 (Fits w8) three →
+  pub required_are : has_changed s ≡ true → (four three two later_lanes lead second : List ℕ) → length four ≡ 32 → length three ≡ 32 → length two ≡ 32 → Each1 (Fits w8) three →
       later_lanes ≡ zip2 (λ b d. later d) three two → lead ≡ map (λ b. mask (eqb b 0xED)) four →
-      second ≡ map (λ b. mask (eqb b 0xA0)) (zip2 bit_and three (replicate 32 0xF0)) → wanted_lanes 32 later_lanes lead second ≡ wants s (has_changed s) four three two
-  wanted_are meant four three two later_lanes lead second long_four long_three long_two fits later_is lead_is second_is =
+      second ≡ map (λ b. mask (eqb b 0xA0)) (zip2 bit_and three (replicate 32 0xF0)) → required_lanes 32 later_lanes lead second ≡ wants s (has_changed s) four three two
+  required_are meant four three two later_lanes lead second long_four long_three long_two fits later_is lead_is second_is =
       let a = λ (i : ℕ). get_or four i 0 in
       let b = λ (i : ℕ). get_or three i 0 in
       let d = λ (i : ℕ). get_or two i 0 in
       rw (meant, later_is, lead_is, second_is, lanes_are four long_four, lanes_are three long_three, lanes_are two long_two)
       (on_range (λ i. bit_or (later (d i)) (bit_and (bit_and (mask (eqb (a i) 0xED)) (mask (eqb (bit_and (b i) 0xF0) 0xA0))) 0x20))
-      (λ i. wanted_if s true (a i) (b i) (d i)) 0 32
+      (λ i. required_if s true (a i) (b i) (d i)) 0 32
       (λ i low inside. both (leb 0xE0 (d i)) (eqb (a i) 0xED) (eqb (bit_and (b i) 0xF0) 0xA0)
       ∙ ap (λ t. later (d i) + cond (eqb (a i) 0xED && t) 0x20 0) (is_high_lane (b i) (lane_fits three long_three fits i inside))))

@@ -11,7 +11,7 @@ use Rattle.cesu8_decode.specs.DecodedOffsets.{continues, one_at, two_at, three_a
 use Rattle.cesu8_decode.specs.Masks.{HasBits, AreMasks, Marks, has_bit_below, is_long_lead_at, is_other_at, is_two_at, is_three_at, is_six_at, is_pair_at, is_null_at}
 use Rattle.cesu8_decode.specs.declared.lanes.masks.Masks.{Masks}
 use Rattle.cesu8_decode.proofs.by_offset.WindowOffsets.{Agree, agree_later, width_agrees}
-use Rattle.cesu8_decode.proofs.decoder.MaskBits.{class_bits, lanes_below, told_by, and_bits, or_bits, without_bits, later_bits, none_set, no_marks, marks_first}
+use Rattle.cesu8_decode.proofs.decoder.MaskBits.{class_bits, lanes_below, by_equal_test, and_bits, or_bits, without_bits, later_bits, none_set, no_marks, marks_first}
 use Rattle.cesu8_decode.proofs.decoder.MaskTests.{continuation_bit, below_c2_bit, wide_lead_bit, two_lead_bit, other_test, one_not_null, one_not_two, one_not_three, one_not_pair, pair_width}
 use Rattle.cesu8_decode.proofs.decoder.ThreeMasks.{and_fits}
 
@@ -84,20 +84,20 @@ module _ (f : Flavor) (xs : List ℕ) (fit : Each1 (Fits w8) xs) where
     -- The bytes that precede a continuation byte.
     pub second_are : HasBits second (λ i. continues (x (i + 1)))
     second_are =
-        later_bits 1 (told_by (λ i. continues (x i)) (λ i. continuation_bit (x i) (small i))
+        later_bits 1 (by_equal_test (λ i. continues (x i)) (λ i. continuation_bit (x i) (small i))
         (without_bits high_fits from_c0_fits (class_bits (leb 0x80) xs refl high_is) (and_bits (class_bits (leb 0x80) xs refl high_is) of_below)))
 
     -- The lead bytes from E0 on that precede a continuation byte.
     pub long_leads_are : HasBits (bit_and (bit_and from_c2 second) wide) (is_long_lead_at xs)
     long_leads_are =
-        told_by (is_long_lead_at xs)
+        by_equal_test (is_long_lead_at xs)
         (λ i. turned (leb 0xC2 (x i)) (continues (x (i + 1))) (has_bit_below 2 (x i)) ∙ ap (λ t. t && continues (x (i + 1))) (wide_lead_bit (x i) (small i)))
         (and_bits (and_bits of_c2 second_are) of_wide)
 
     -- The bytes C0 and C1.
     pub below_c2_are : HasBits (bit_and from_c0 (bit_not w64 from_c2)) (λ i. leb 0xC0 (x i) && ltb (x i) 0xC2)
     below_c2_are =
-        told_by (λ i. leb 0xC0 (x i) && ltb (x i) 0xC2) (λ i. below_c2_bit (x i) (small i))
+        by_equal_test (λ i. leb 0xC0 (x i) && ltb (x i) 0xC2) (λ i. below_c2_bit (x i) (small i))
         (without_bits from_c0_fits c2_fits (and_bits (class_bits (leb 0x80) xs refl high_is) of_below) of_c2)
 
     -- The characters of two bytes.

@@ -151,8 +151,8 @@ pub power_less_one : (n : ℕ) → n < 64 → 1 * 2 ^ n % 2 ^ 64 - 1 ≡ 2 ^ n -
 power_less_one n few = grind (arith, pow-lt, one-mul, mod-eq_of_lt)
 
 -- A test can be replaced by one that agrees with it.
-pub told_by : {a : ℕ} {p : ℕ → Bool} (q : ℕ → Bool) → ((i : ℕ) → p i ≡ q i) → HasBits a p → HasBits a q
-told_by q same h = record { bit = λ i. h.bit i ∙ ap (λ t. cond t 1 0) (same i) }
+pub by_equal_test : {a : ℕ} {p : ℕ → Bool} (q : ℕ → Bool) → ((i : ℕ) → p i ≡ q i) → HasBits a p → HasBits a q
+by_equal_test q same h = record { bit = λ i. h.bit i ∙ ap (λ t. cond t 1 0) (same i) }
 
 -- ---- masks of lanes
 
@@ -174,7 +174,7 @@ class_within class xs is = record {
 -- If 0 is not in the class, the mask is also that of the lanes with zeros after them.
 pub class_bits : (class : ℕ → Bool) (xs : List ℕ) {a : ℕ} → class 0 ≡ false → a ≡ mask_l (map class xs) →
     HasBits a (λ i. class (get_or xs i 0))
-class_bits class xs none is = told_by (λ i. class (get_or xs i 0)) same (class_within class xs is)
+class_bits class xs none is = by_equal_test (λ i. class (get_or xs i 0)) same (class_within class xs is)
   where
     same : (i : ℕ) → (ltb i (length xs) && class (get_or xs i 0)) ≡ class (get_or xs i 0)
     same i =
@@ -228,7 +228,7 @@ module _ (mask : ℕ) (test : ℕ → Bool) (at n : ℕ) (marks : mask ≡ mask_
 -- A mask limited to the first n bits marks the offsets among them that pass.
 pub marks_first : (test : ℕ → Bool) (n : ℕ) {a b : ℕ} {p : ℕ → Bool} → HasBits a p → HasBits b (λ i. ltb i n) →
     ((i : ℕ) → i < n → p i ≡ test i) → bit_and a b ≡ mask_l (map test (range_with_len 0 n))
-marks_first test n {p = p} h first same = marks_from test 0 n (told_by (λ i. ltb i n && test (0 + i)) tested (and_bits h first))
+marks_first test n {p = p} h first same = marks_from test 0 n (by_equal_test (λ i. ltb i n && test (0 + i)) tested (and_bits h first))
   where
     tested : (i : ℕ) → (p i && ltb i n) ≡ (ltb i n && test (0 + i))
     tested i =
@@ -240,7 +240,7 @@ marks_first test n {p = p} h first same = marks_from test 0 n (told_by (λ i. lt
 
 -- The mask is 0 if no offset passes.
 pub no_marks : (test : ℕ → Bool) (at n : ℕ) → ((i : ℕ) → i < n → test (at + i) ≡ false) → 0 ≡ mask_l (map test (range_with_len at n))
-no_marks test at n none = marks_from test at n (told_by (λ i. ltb i n && test (at + i)) same no_bits)
+no_marks test at n none = marks_from test at n (by_equal_test (λ i. ltb i n && test (at + i)) same no_bits)
   where
     same : (i : ℕ) → false ≡ (ltb i n && test (at + i))
     same i =

@@ -26,9 +26,9 @@ abbrev pub pass_at : (read end : ℕ) → Pass
 pass_at read end = record { read = read; end = end; is_refused = false }
 
 -- What is written can follow any text.
-behind_text : (f : Flavor) (which : Strictness) (window text old new : List ℕ) (at n : ℕ) (is_refused : Bool) →
+after_other_text : (f : Flavor) (which : Strictness) (window text old new : List ℕ) (at n : ℕ) (is_refused : Bool) →
     IsDecoded f which window at n old new is_refused → IsDecoded f which window at n (text ++ old) (text ++ new) is_refused
-behind_text f which window text old new at n is_refused is = record {
+after_other_text f which window text old new at n is_refused is = record {
   bytes = λ none. ap (λ bs. text ++ bs) (is.bytes none) ∙ sym (append_assoc text old _);
   refused = is.refused;
   lossy = is.lossy;
@@ -77,7 +77,7 @@ module _ (f : Flavor) (which : Strictness) (bytes : List ℕ) where
     text = λ start text so_far.
         subst (λ m. IsDecoded f which (window_of bytes) 0 m start (text ++ take after.end new) after.is_refused) (sym read_is)
         (more_decoded f which (window_of bytes) start (text ++ take before.end old) (text ++ take after.end new) before.read n after.is_refused so_far
-        (behind_text f which (window_of bytes) text _ _ before.read n after.is_refused
+        (after_other_text f which (window_of bytes) text _ _ before.read n after.is_refused
         (decoded_in f which window (window_of bytes) _ _ p before.read n after.is_refused agree writes.text)));
     end = omega (arith, writes.end, most_of_more which before.read n, ap (most_written which) read_is);
     inside = fits;
@@ -153,7 +153,7 @@ pair_goes_on f which bytes read end new_end is long has four old new is_utf8 siz
       within = (omega arith, inside);
       text = λ start text so_far.
           more_decoded f which (window_of bytes) start _ _ read 6 false so_far
-          (behind_text f which (window_of bytes) text _ _ read 6 false (record {
+          (after_other_text f which (window_of bytes) text _ _ read 6 false (record {
             bytes = λ _. put.writes.bytes ∙ ap (λ bs. take end old ++ bs) (sym (pair_decoded f bytes read is.within is.boundary has long four is_utf8));
             refused = λ never. absurd (true≢false (sym never));
             lossy = λ _. refl;
@@ -179,7 +179,7 @@ front_goes_on f which bytes part k read end len new_end is part_is front old new
   within = (omega arith, inside);
   text = λ start before so_far.
       more_decoded f which (window_of bytes) start _ _ read len false so_far
-      (behind_text f which (window_of bytes) before _ _ read len false (record {
+      (after_other_text f which (window_of bytes) before _ _ read len false (record {
         bytes = λ _. put.writes.bytes ∙ ap (λ bs. take end old ++ bs) (sym decoded_is);
         refused = λ never. absurd (true≢false (sym never));
         lossy = λ _. refl;

@@ -4,7 +4,7 @@ use Rattle.std.specs.Int.{bit_not}
 use Rattle.std.proofs.lemmas.Nat.{and_le_l, or_lt}
 use Rattle.cesu8_decode.specs.DecodedOffsets.{continues, pair_at}
 use Rattle.cesu8_decode.specs.Masks.{HasBits, has_bit_below, is_long_lead_at, is_three_at, is_six_at}
-use Rattle.cesu8_decode.proofs.decoder.MaskBits.{told_by, and_bits, or_bits, without_bits, later_bits, no_bits, none_set}
+use Rattle.cesu8_decode.proofs.decoder.MaskBits.{by_equal_test, and_bits, or_bits, without_bits, later_bits, no_bits, none_set}
 use Rattle.cesu8_decode.proofs.decoder.MaskTests.{whole_by, plain_three, plain_not_pair, surrogate_by, pair_by, three_bits, pair_bits, no_surrogate, no_lead_no_three, no_lead_no_pair}
 
 -- The masks that the code computes.
@@ -26,8 +26,8 @@ module _ (xs : List ℕ) where
   -- begins.
   pub none_are : {leads : ℕ} → leads ≡ 0 → HasBits leads (is_long_lead_at xs) → HasBits 0 (is_three_at xs) × HasBits 0 (is_six_at xs)
   none_are none of_leads = (
-    told_by (is_three_at xs) (λ i. sym (no_lead_no_three (x i) (x (i + 1)) (x (i + 2)) (none_set none of_leads i))) no_bits,
-    told_by (is_six_at xs) (λ i. sym (no_lead_no_pair (x i) (x (i + 1)) (x (i + 2)) (x (i + 3)) (x (i + 4)) (x (i + 5)) (none_set none of_leads i))) no_bits,
+    by_equal_test (is_three_at xs) (λ i. sym (no_lead_no_three (x i) (x (i + 1)) (x (i + 2)) (none_set none of_leads i))) no_bits,
+    by_equal_test (is_six_at xs) (λ i. sym (no_lead_no_pair (x i) (x (i + 1)) (x (i + 2)) (x (i + 3)) (x (i + 4)) (x (i + 5)) (none_set none of_leads i))) no_bits,
   )
 
   module _ (small : (i : ℕ) → get_or xs i 0 < 256) {leads second odd : ℕ} (of_leads : HasBits leads (is_long_lead_at xs))
@@ -35,7 +35,7 @@ module _ (xs : List ℕ) where
     -- The bytes that pass all tests except those of the second byte.
     of_whole : HasBits (whole_of leads second odd) (λ i. whole_by (x i) (x (i + 1)) (x (i + 2)) (has_bit_below 3 (x i)))
     of_whole =
-        let third = told_by (λ i. continues (x (i + 2))) (λ i. let offset : i + 1 + 1 ≡ i + 2 = omega arith in ap (λ j. continues (x j)) offset) (later_bits 1 of_second) in
+        let third = by_equal_test (λ i. continues (x (i + 2))) (λ i. let offset : i + 1 + 1 ≡ i + 2 = omega arith in ap (λ j. continues (x j)) offset) (later_bits 1 of_second) in
         without_bits (and_fits leads (second / 2) leads_fit) odd_fits (and_bits of_leads third) of_odd
 
     whole_fits : whole_of leads second odd < 2 ^ 64
@@ -47,8 +47,8 @@ module _ (xs : List ℕ) where
         HasBits (whole_of leads second odd) (is_three_at xs) × HasBits 0 (is_six_at xs)
     plain_are of_special none =
         let plain = none_set none (and_bits of_whole of_special) in (
-          told_by (is_three_at xs) (λ i. plain_three (x i) (x (i + 1)) (x (i + 2)) (small i) (small (i + 1)) (plain i)) of_whole,
-          told_by (is_six_at xs) (λ i. sym (plain_not_pair (x i) (x (i + 1)) (x (i + 2)) (small i) (small (i + 1)) (x (i + 3)) (x (i + 4)) (x (i + 5)) (plain i))) no_bits,
+          by_equal_test (is_three_at xs) (λ i. plain_three (x i) (x (i + 1)) (x (i + 2)) (small i) (small (i + 1)) (plain i)) of_whole,
+          by_equal_test (is_six_at xs) (λ i. sym (plain_not_pair (x i) (x (i + 1)) (x (i + 2)) (small i) (small (i + 1)) (x (i + 3)) (x (i + 4)) (x (i + 5)) (plain i))) no_bits,
         )
 
     module _ {wide led lowest : ℕ} (of_wide : HasBits wide (λ i. has_bit_below 2 (x i))) (of_led : HasBits led (λ i. eqb (x i) 0xED))
@@ -64,14 +64,14 @@ module _ (xs : List ℕ) where
       -- The characters of three bytes.
       pub threes_are : HasBits (bit_and (whole_of leads second odd) (bit_not w64 (bit_or (surrogates_of leads second wide odd led) (bit_and lowest (bit_not w64 (wide / 2)))))) (is_three_at xs)
       threes_are =
-          told_by (is_three_at xs) (λ i. three_bits (x i) (x (i + 1)) (x (i + 2)) (small i) (small (i + 1)))
+          by_equal_test (is_three_at xs) (λ i. three_bits (x i) (x (i + 1)) (x (i + 2)) (small i) (small (i + 1)))
           (without_bits whole_fits (or_lt 64 _ _ surrogates_fit (and_fits lowest (bit_not w64 (wide / 2)) lowest_fits)) of_whole
           (or_bits surrogate_mask (without_bits lowest_fits (omega arith) of_lowest (later_bits 1 of_wide))))
 
       -- The surrogate pairs. Without a surrogate there is none.
       pub no_pairs_are : surrogates_of leads second wide odd led ≡ 0 → HasBits 0 (is_six_at xs)
       no_pairs_are none =
-          told_by (is_six_at xs) (λ i. sym (no_surrogate (x i) (x (i + 1)) (x (i + 2)) (small i) (small (i + 1)) (x (i + 3)) (x (i + 4)) (x (i + 5)) (none_set none surrogate_mask i))) no_bits
+          by_equal_test (is_six_at xs) (λ i. sym (no_surrogate (x i) (x (i + 1)) (x (i + 2)) (small i) (small (i + 1)) (x (i + 3)) (x (i + 4)) (x (i + 5)) (none_set none surrogate_mask i))) no_bits
 
       pub pairs_are :
           let surrogates = surrogates_of leads second wide odd led in
@@ -79,7 +79,7 @@ module _ (xs : List ℕ) where
           HasBits (bit_and (bit_and surrogates (bit_not w64 low)) (low / 8)) (is_six_at xs)
       pairs_are =
           let low = and_bits surrogate_mask (later_bits 1 of_odd) in
-          told_by (is_six_at xs) paired (and_bits (without_bits surrogates_fit (and_fits (surrogates_of leads second wide odd led) (odd / 2) surrogates_fit) surrogate_mask low) (later_bits 3 low))
+          by_equal_test (is_six_at xs) paired (and_bits (without_bits surrogates_fit (and_fits (surrogates_of leads second wide odd led) (odd / 2) surrogates_fit) surrogate_mask low) (later_bits 3 low))
         where
           paired : (i : ℕ) →
               pair_by (x i) (x (i + 1)) (x (i + 2)) (x (i + 3)) (x (i + 3 + 1)) (x (i + 3 + 2)) (has_bit_below 3 (x i)) (has_bit_below 2 (x (i + 1)))

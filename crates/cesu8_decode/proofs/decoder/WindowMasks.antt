@@ -16,7 +16,7 @@ use Rattle.cesu8_decode.proofs.by_offset.WindowOffsets.{follows_zeros, width_the
 use Rattle.cesu8_decode.proofs.by_offset.CharacterBoundaries.{boundary_ends, boundary_where, ends_before, ends_by_zero, width_bounds}
 use Rattle.cesu8_decode.proofs.by_offset.WidthTests.{width_tells}
 use Rattle.cesu8_decode.proofs.by_offset.IllFormed.{reached, not_reached}
-use Rattle.cesu8_decode.proofs.decoder.MaskBits.{unset, set_true, run_ones, run_ends, marks_fit, told_by, or_bits, without_bits, marks_from, bits_from}
+use Rattle.cesu8_decode.proofs.decoder.MaskBits.{unset, set_true, run_ones, run_ends, marks_fit, by_equal_test, or_bits, without_bits, marks_from, bits_from}
 use Rattle.cesu8_decode.proofs.decoder.FormMasks.{masks_moved}
 use Rattle.cesu8_decode.proofs.decoder.CoveredMasks.{covered_by, threes_by, threes_mask, covered_mask, Part, formed, from_covered, to_covered}
 
@@ -113,7 +113,7 @@ module _ (f : Flavor) (bytes : List ℕ) (at n : ℕ) (boundary : is_boundary_at
       HasBits others (λ i. ltb i n && is_other_at f bytes (at + i)) → HasBits mask covered →
       Marks (bit_and others (bit_not w64 mask)) (is_ill_formed_at f (window_of bytes)) at n
   ill_marks others mask few others_fit mask_fits of_others of_mask =
-      marks_from (is_ill_formed_at f (window_of bytes)) at n (told_by (λ i. ltb i n && ill i) tested (without_bits others_fit mask_fits of_others of_mask))
+      marks_from (is_ill_formed_at f (window_of bytes)) at n (by_equal_test (λ i. ltb i n && ill i) tested (without_bits others_fit mask_fits of_others of_mask))
     where
       grouped : (s t u : Bool) → ((s && t) && u) ≡ (s && (t && u))
       grouped s t u = grind arith

@@ -23,7 +23,7 @@ use std::simd::prelude::*;
 /// Returns the block of 32 bytes that follow `before`. The first block follows zeros: any ASCII
 /// would be correct, if `after_fillers` used it too, but zeros take the fewest instructions.
 #[inline(always)]
-pub fn block_behind(before: u8x32, bytes: u8x32) -> Block
+pub fn block_after(before: u8x32, bytes: u8x32) -> Block
     ensures { (set : AnySet) → IsBlockAt set (drop (BLOCK - DECIDING) (before ++ bytes)) 0 result }
 {
     Block {
@@ -45,7 +45,7 @@ pub fn following_len<F: Flavor, S: CharacterSet>(block: Block) -> usize
     ensures stops { (window : List ℕ) (at : ℕ) → IsBlockAt S.set window at block → result < BLOCK
         → follows_at S.set F.flavor window (at + result) ≡ false }
 {
-    lanes_before::<HighestBit, BLOCK>(misplaced::<F, S>(block))
+    lanes_before::<HighestBit, BLOCK>(error_mask::<F, S>(block))
 }
 
 /// Returns whether each of the 64 bytes from an offset on can follow the bytes before it.
@@ -64,26 +64,30 @@ pub fn two_follow<F: Flavor, S: CharacterSet>(bytes: &[u8], at: usize) -> bool
     }
     let first = S::block_at(first, bytes, at);
     let second = S::block_at(second, bytes, at + BLOCK);
-    bits::<HighestBit, BLOCK>(misplaced::<F, S>(first) | misplaced::<F, S>(second)) == 0
+    bits::<HighestBit, BLOCK>(error_mask::<F, S>(first) | error_mask::<F, S>(second)) == 0
 }
 
 /// Returns an error mask: FF for each byte of a block that cannot follow the bytes before it, and
 /// 00 for the others.
 #[inline(always)]
-fn misplaced<F: Flavor, S: CharacterSet>(block: Block) -> u8x32
+fn error_mask<F: Flavor, S: CharacterSet>(block: Block) -> u8x32
     ensures { (window : List ℕ) (at : ℕ) → IsBlockAt S.set window at block
         → result ≡ map (λ i. mask (not (follows_at S.set F.flavor window i)))
         (range_with_len at BLOCK) }
 {
-    let required_class = wanted_by::<S>(block.four_before, block.three_before, block.two_before);
-    shown_by::<F, S>(block.one_before, block.bytes)
+    let required_class = required_classes::<S>(
+        block.four_before,
+        block.three_before,
+        block.two_before,
+    );
+    pair_classes::<F, S>(block.one_before, block.bytes)
         .simd_eq(required_class)
         .select(u8x32::splat(0), u8x32::splat(0xFF))
 }
 
 /// Returns the class of each pair of bytes.
 #[inline(always)]
-fn shown_by<F: Flavor, S: CharacterSet>(first: u8x32, second: u8x32) -> u8x32
+fn pair_classes<F: Flavor, S: CharacterSet>(first: u8x32, second: u8x32) -> u8x32
     ensures { result ≡ zip2 (pair_class S.set F.flavor) first second }
 {
     let rule = S::rule();
@@ -112,7 +116,11 @@ fn kept_of_null<S: CharacterSet>(bytes: u8x32) -> u8x32
 /// earlier: `TWO_CONTS` for the third byte of a character, `SURROGATE` for the second byte of a low
 /// surrogate, and otherwise 0.
 #[inline(always)]
-fn wanted_by<S: CharacterSet>(four_before: u8x32, three_before: u8x32, two_before: u8x32) -> u8x32
+fn required_classes<S: CharacterSet>(
+    four_before: u8x32,
+    three_before: u8x32,
+    two_before: u8x32,
+) -> u8x32
     ensures { result ≡ zip2 (λ wants d. wants d)
         (zip2 (required_class S.set) four_before three_before) two_before }
 {

@@ -53,6 +53,7 @@ const MANY_RUNS: u32 = 5;
 /// Writes the text of a window, and returns its end. The window begins at a character boundary. In
 /// strict decoding it has no ill-formed byte.
 #[inline(always)]
+#[tactic(auto, using(std::proofs::lemmas::Nat::le_or_l, std::proofs::lemmas::Nat::le_or_r))]
 pub fn write_events<F: Flavor, S: Reading>(
     bytes: &[u8],
     at: usize,

@@ -33,6 +33,7 @@ const SOURCE: usize = FEW_BYTES + LANES;
 /// Writes the decoded text of at most 64 bytes and returns its length, or returns an error if
 /// decoding is strict and a byte is ill-formed. `front` is their unchanged prefix.
 #[inline(always)]
+#[tactic(auto, using(crate::proofs::decoder::Passes::reads_text))]
 pub fn write_few<F: Flavor, S: Reading>(
     bytes: &[u8],
     front: UnchangedPrefix,

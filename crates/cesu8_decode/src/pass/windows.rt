@@ -76,6 +76,7 @@ pub fn write_windows<F: Flavor, S: Reading>(bytes: &[u8], read: usize, out: &mut
 /// Writes the text of all bytes to a buffer with enough space and returns its length, or returns an
 /// error if decoding is strict and a byte is ill-formed.
 #[inline(always)]
+#[tactic(auto, using(crate::proofs::decoder::Passes::at_start))]
 pub fn write_all<F: Flavor, S: Reading>(bytes: &[u8], out: &mut [u8]) -> Result<usize, S::Refusal>
     requires { room_for S.which (length bytes.now) ≤ length out.old }
     ensures { WritesReading F.flavor S.which bytes.now result out.old out.new }

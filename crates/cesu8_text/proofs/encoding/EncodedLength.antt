@@ -41,7 +41,7 @@ length_encoding f (c ∷ text) is_text =
 -- its length.
 pub record LengthByBytes (f : Flavor) (text bytes : List ℕ) : Type 0 where
   pub sum : length bytes + sum_by (growth_of f) bytes ≡ length (encoding f (chars text))
-  pub most : length (encoding f (chars text)) ≤ 2 * length bytes
+  pub bound : length (encoding f (chars text)) ≤ 2 * length bytes
 
 -- `LengthByBytes` holds for each string in std.
 pub length_by_bytes : (f : Flavor) (text bytes : List ℕ) → bytes ≡ text → IsUtf8 text → LengthByBytes f text bytes

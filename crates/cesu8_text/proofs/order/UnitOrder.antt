@@ -30,9 +30,9 @@ unfolding units_of
 not_below_nothing c us below = grind (arith, nat_tests)
 
 -- What follows a common prefix is below if the whole is.
-after_front : (front us vs : List ℕ) → IsBelow (front ++ us) (front ++ vs) → IsBelow us vs
-after_front [] us vs below = below
-after_front (u ∷ front) us vs below = grind (arith, after_front front us vs)
+below_after_prefix : (front us vs : List ℕ) → IsBelow (front ++ us) (front ++ vs) → IsBelow us vs
+below_after_prefix [] us vs below = below
+below_after_prefix (u ∷ front) us vs below = grind (arith, below_after_prefix front us vs)
 
 -- Texts with equal code units are equal.
 same_units : (s t : List ℕ) → IsText s → IsText t → units s ≡ units t → s ≡ t
@@ -63,7 +63,7 @@ module _ (Fits : ℕ → Type 0) (write : List ℕ → List ℕ) (keeps : KeepsO
         keeps.cons d t,
         precedes c d (units s) (units t),
         keeps.less c d (write s) (write t) is_text.0 other_is_text.0 (All-head Fits c s fits),
-        after_front (units_of c) (units s) (units t),
+        below_after_prefix (units_of c) (units s) (units t),
         below_after (write (c ∷ [])) (write s) (write t),
         written_below s t is_text.1 other_is_text.1 (All-tail Fits c s fits),
       )

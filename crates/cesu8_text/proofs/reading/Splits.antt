@@ -23,9 +23,9 @@ joined_pieces [] q are_pieces others = others
 joined_pieces (piece ∷ p) q are_pieces others = (are_pieces.0, joined_pieces p q are_pieces.1 others)
 
 -- A character that begins the whole and ends in the first part begins the first part.
-pub begins_front : (f : Flavor) (front back rest : List ℕ) (c : ℕ) → BeginsWith f (front ++ back) c rest → width f c ≤ length front →
+begins_in_prefix : (f : Flavor) (front back rest : List ℕ) (c : ℕ) → BeginsWith f (front ++ back) c rest → width f c ≤ length front →
     BeginsWith f front c (drop (width f c) front)
-begins_front f front back rest c begins inside =
+begins_in_prefix f front back rest c begins inside =
     grind (
       arith,
       take-append-drop (width f c) front,
@@ -45,7 +45,7 @@ joined_greedy f (Replaced b ∷ p) q is_greedy other_is_greedy crosses = (
     arith,
     bytes_of_joined f p q,
     crosses 0 c,
-    begins_front f (b ∷ bytes_of f p) (bytes_of f q) rest c,
+    begins_in_prefix f (b ∷ bytes_of f p) (bytes_of f q) rest c,
     is_greedy.0 c (drop (width f c) (b ∷ bytes_of f p)),
   ),
   joined_greedy f p q is_greedy.1 other_is_greedy

@@ -93,10 +93,10 @@ inside_marks f bytes c i (suc n) rest begins later inside =
 
 -- A character that begins the bytes has the mark of its first offset, and the rest of its stretch
 -- none.
-front_marks : (f : Flavor) (bytes : List ℕ) (c n : ℕ) (rest : List ℕ) → BeginsWith f bytes c rest → suc n ≡ width f c →
+marks_of_prefix : (f : Flavor) (bytes : List ℕ) (c n : ℕ) (rest : List ℕ) → BeginsWith f bytes c rest → suc n ≡ width f c →
     marks f bytes 0 (suc n) ≡ c ∷ []
 unfolding marks
-front_marks f bytes c n rest begins all =
+marks_of_prefix f bytes c n rest begins all =
     grind (arith, mark_from f bytes 0 (c ∷ []) (Stands c (rest, begins)), inside_marks f bytes c 1 n rest begins)
 
 -- A character that begins the bytes is read first.
@@ -112,7 +112,7 @@ reading_character f bytes c rest begins =
       arith,
       long,
       reading_parts f front rest crosses,
-      front_marks f bytes c (width f c - 1) rest begins,
+      marks_of_prefix f bytes c (width f c - 1) rest begins,
     )
 
 -- The lossy reading of no bytes is empty.

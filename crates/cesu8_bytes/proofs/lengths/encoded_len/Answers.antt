@@ -7,7 +7,7 @@ use Rattle.cesu8_bytes.proofs.lengths.encoded_len.Goals as goal
 pub overflow_add-result : goal.overflow_add-result
 overflow_add-result g c =
     let known = length_by_bytes g.F.Flavor.flavor c.args.text.now _ c.as_bytes.ensures.value c.utf8.text in
-    grind (arith, known.sum, known.most, g.met.F.Flavor.are_null)
+    grind (arith, known.sum, known.bound, g.met.F.Flavor.are_null)
 
 pub returns : goal.returns
 returns g c =

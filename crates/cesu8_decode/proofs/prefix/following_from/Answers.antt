@@ -1,8 +1,8 @@
--- A block is tested by the bytes in it and the four before it (`stop_behind`). All bytes before
+-- A block is tested by the bytes in it and the four before it (`stop_after`). All bytes before
 -- `at` can follow each other, so the first error in the block at `at` is the first error of all.
 use Rattle.std.proofs.Common.{◌≡◌, ◌+◌, ◌-◌, ◌<◌, length, subst, arith}
 use Rattle.cesu8_decode.specs.Following.{FirstFollow, FollowUpTo}
-use Rattle.cesu8_decode.proofs.decoder.FollowingBlocks.{follow_up_to, stop_behind}
+use Rattle.cesu8_decode.proofs.decoder.ErrorMasks.{follow_up_to, stop_after}
 use Rattle.cesu8_decode.proofs.prefix.following_from.Goals as goal
 
 pub returns-then-len-ne-BLOCK : goal.returns-then-len-ne-BLOCK
@@ -16,7 +16,7 @@ returns-then-len-ne-BLOCK g c =
     let less : len < 32 = omega (arith, c.following_len-len.ensures.within bytes (at - 4) is, c.if-len-ne-BLOCK.true) in
     let end : at - 4 + len + 4 ≡ at + len = omega (arith, c.loop-at.invariant.start) in
     subst (FollowUpTo s f bytes) end
-    (stop_behind s f bytes at (at - 4) len c.loop-at.invariant.first (omega (arith, c.loop-at.invariant.start))
+    (stop_after s f bytes at (at - 4) len c.loop-at.invariant.first (omega (arith, c.loop-at.invariant.start))
     (omega (arith, c.loop-at.invariant.start, c.loop-at-test.true, less)) (c.following_len-len.ensures.follow bytes (at - 4) is)
     (λ more. c.following_len-len.ensures.stops bytes (at - 4) is less))
 
@@ -50,6 +50,6 @@ returns g c =
     let long = c.requires.start.1 in
     let end : at + len + 4 ≡ length bytes - 32 + len = omega (arith, long) in
     subst (FollowUpTo s f bytes) end
-    (stop_behind s f bytes c.loop-at.at at len c.loop-at.invariant.first (omega (arith, c.loop-at-test.false, long, c.loop-at.invariant.start))
+    (stop_after s f bytes c.loop-at.at at len c.loop-at.invariant.first (omega (arith, c.loop-at-test.false, long, c.loop-at.invariant.start))
     (omega (arith, long, within)) (c.following_len.ensures.follow bytes at is)
     (λ more. c.following_len.ensures.stops bytes at is (omega (arith, long, more))))

@@ -6,7 +6,7 @@ use Rattle.std.proofs.lemmas.Bool.{leb-false, or_parts}
 use Rattle.std.proofs.lemmas.List.{length-take-le}
 use Rattle.cesu8_text.specs.Encoding.{Flavor}
 use Rattle.cesu8_decode.specs.Following.{CharacterSet, AllFollow, FirstFollow, FollowUpTo, after_fillers, follows_at}
-use Rattle.cesu8_decode.proofs.decoder.FollowingBlocks.{ones_follow, first_of_front, stop_in_front}
+use Rattle.cesu8_decode.proofs.decoder.ErrorMasks.{ones_follow, first_of_front, stop_in_front}
 use Rattle.cesu8_decode.proofs.prefix.following_many.Goals as goal
 use Rattle.cesu8_decode.proofs.prefix.following_many.Goals.{then-run-eq0+else-len-ne-BLOCK, else-run-eq0}
 
@@ -28,7 +28,7 @@ returns-then-len-ne-BLOCK g c =
     let f = g.F.Flavor.flavor in
     let bytes = c.args.bytes.now in
     let window = after_fillers (take 32 bytes) in
-    let is = c.block_behind.ensures s in
+    let is = c.block_after.ensures s in
     let len = c.following_len-len.ensures in
     let within = len.within window 0 is in
     stop_in_front s f bytes 32 c.following_len-len.result (omega (arith, c.requires)) (omega (arith, c.if-len-ne-BLOCK.true, within))
@@ -46,7 +46,7 @@ following_from-requires-clause-first g c =
     elim c.if-run-eq0.branch [
       | then-run-eq0+else-len-ne-BLOCK w ↦
           let window = after_fillers (take 32 bytes) in
-          let is = w.block_behind.ensures s in
+          let is = w.block_after.ensures s in
           let len = w.following_len-len.ensures in
           let within = len.within window 0 is in
           let few = in_block s f bytes _ (omega (arith, c.requires)) within (len.follow window 0 is) (len.stops window 0 is) in

@@ -2,7 +2,7 @@
 -- an error now end 64 later.
 use Rattle.std.proofs.Common.{◌≡◌, ◌+◌, ◌-◌, subst, arith}
 use Rattle.cesu8_decode.specs.Following.{FirstFollow}
-use Rattle.cesu8_decode.proofs.decoder.FollowingBlocks.{follow_up_to}
+use Rattle.cesu8_decode.proofs.decoder.ErrorMasks.{follow_up_to}
 use Rattle.cesu8_decode.proofs.prefix.following_twos.Goals as goal
 
 pub loop-at-preserved : goal.loop-at-preserved

@@ -6,7 +6,7 @@ use Rattle.cesu8_text.specs.Encoding.{Flavor}
 use Rattle.cesu8_decode.specs.Following.{CharacterSet, FollowUpTo, has_changed, after_fillers, crosses_at}
 use Rattle.cesu8_decode.specs.Prefixes.{IsLongestPrefix}
 use Rattle.cesu8_decode.proofs.chunks.LongestPrefixes.{crosses_next, crosses_second, cut_at, prefix_at}
-use Rattle.cesu8_decode.proofs.decoder.FollowingBlocks.{behind_fillers}
+use Rattle.cesu8_decode.proofs.decoder.ErrorMasks.{after_the_fillers}
 use Rattle.cesu8_decode.proofs.prefix.last_boundary.Goals as goal
 
 -- The first four bytes are the zeros before the bytes.
@@ -15,7 +15,7 @@ filler bytes i near = eqb-true _ _ (agree_below_at (λ i. eqb (get_or (after_fil
 
 -- After the four zeros are the bytes.
 there : (bytes : List ℕ) (i j : ℕ) → i + 4 ≡ j → get_or (after_fillers bytes) j 0 ≡ get_or bytes i 0
-there bytes i j here = ap (λ k. get_or (after_fillers bytes) k 0) (sym here) ∙ behind_fillers bytes i
+there bytes i j here = ap (λ k. get_or (after_fillers bytes) k 0) (sym here) ∙ after_the_fillers bytes i
 
 -- If neither of the last two bytes leads a character that is cut off, the prefix ends here.
 none_cut : (s : CharacterSet) (f : Flavor) (bytes : List ℕ) (at : ℕ) → FollowUpTo s f bytes at → has_changed s ≡ false →
@@ -40,7 +40,7 @@ returns-then-last-ge192 g c =
     let bytes = c.args.bytes.now in
     let at = c.args.at in
     let n = at - 1 in
-    let high : 0xC0 ≤ get_or (after_fillers bytes) (n + 4) 0 = omega (arith, behind_fillers bytes n, c.if-last-ge192.true) in
+    let high : 0xC0 ≤ get_or (after_fillers bytes) (n + 4) 0 = omega (arith, after_the_fillers bytes n, c.if-last-ge192.true) in
     cut_at s g.F.Flavor.flavor bytes at n (sym (ap (λ rule. rule.has_changed) c.rule.ensures) ∙ c.if-rule.false) c.requires (omega (arith, c.if-at-eq0.false)) high
     (λ k past inside. let here : k ≡ n + 1 = omega (arith, past, inside, c.if-at-eq0.false) in ap (crosses_at s (after_fillers bytes)) here ∙ crosses_next s bytes n high)
 
@@ -58,7 +58,7 @@ returns-then-second-ge224 g c =
     let again : c.max.result - 2 ≡ at - 1 = omega (arith, few, c.max.ensures, c.if-at-eq0.false) in
     absurd (omega (arith, ap (λ i. get_or bytes i 0) again, c.if-last-ge192.false, c.if-second-ge224.true))) (λ more. more) (cases_lt at 2) in
     let here : c.max.result - 2 ≡ n = omega (arith, some, c.max.ensures) in
-    let high : 0xE0 ≤ get_or (after_fillers bytes) (n + 4) 0 = omega (arith, behind_fillers bytes n, ap (λ i. get_or bytes i 0) here, c.if-second-ge224.true) in
+    let high : 0xE0 ≤ get_or (after_fillers bytes) (n + 4) 0 = omega (arith, after_the_fillers bytes n, ap (λ i. get_or bytes i 0) here, c.if-second-ge224.true) in
     cut_at s g.F.Flavor.flavor bytes at n (sym (ap (λ rule. rule.has_changed) c.rule.ensures) ∙ c.if-rule.false) c.requires (omega (arith, some)) (omega (arith, high))
     (λ k past inside. ⊎_elim (λ (here : k ≡ n + 1). ap crosses here ∙ crosses_next s bytes n (omega (arith, high)))
     (λ other. let here : k ≡ n + 2 = omega (arith, other, past, inside, some) in ap crosses here ∙ crosses_second s bytes n high) (cases_eq k (n + 1)))

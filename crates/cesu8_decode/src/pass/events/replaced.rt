@@ -76,6 +76,7 @@ pub fn write_replaced<F: Flavor>(
 /// Stores sixteen bytes, with the replacement character in place of those whose bit is set, and
 /// returns the end. The bits above the sixteen are ignored.
 #[inline(always)]
+#[tactic(auto, using(std::proofs::lemmas::Nat::and_le_r))]
 fn store_replaced(bytes: u8x16, ill_formed: usize, out: &mut [u8], at: usize) -> usize
     requires { at + REPLACEMENT * HALF + STORED ≤ length out.old }
     ensures { (tests : List Bool) → HALF ≤ length tests → ill_formed ≡ mask_l tests
@@ -112,6 +113,7 @@ fn store_four(lanes: u8x16, ill_formed: usize, out: &mut [u8], at: usize) -> usi
 }
 
 /// Returns a reference to the rows.
+#[tactic(auto, using(crate::proofs::decoder::EventsRows::rows_are))]
 fn rows() -> &'static [[u8; 16]; 16]
     ensures { AreShufflesOfReplaced result.now }
 {

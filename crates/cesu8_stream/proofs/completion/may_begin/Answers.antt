@@ -1,3 +1,5 @@
+-- If a character begins one of the two completions, some bytes after these make a character. And if
+-- some bytes do, one of the two completions is a character, by `completed` of `laws`.
 use Rattle.std.proofs.Common.{◌<◌, ◌++◌, drop, length, inl, inr, ap, ◌∙◌, arith}
 use Rattle.std.proofs.lemmas.Bool.Decides.{nat_tests}
 use Rattle.cesu8_stream.proofs.Completions.{IsTested, found_begins, begins_found}

@@ -1,8 +1,9 @@
+-- What was read so far was converted, and is at the start of the buffer. An iteration that reads
+-- nothing is the last one.
 use Rattle.std.proofs.Common.{◌≤◌, ◌-◌, length}
 use Rattle.cesu8_stream.specs.Written.{Converts}
 use Rattle.cesu8_stream.proofs.engine.convert_rest.Given as goal
 
--- What was read so far was converted.
 abbrev pub invariant-loop-moved : goal.invariant-loop-moved
 invariant-loop-moved g l = record {
   within : l.read ≤ length l.bytes;

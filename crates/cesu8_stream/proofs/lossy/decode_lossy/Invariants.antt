@@ -1,8 +1,9 @@
+-- The lossy reading of the bytes read so far is at the start of the buffer. Each iteration that goes
+-- on replaces one byte.
 use Rattle.std.proofs.Common.{◌≤◌, ◌-◌, length}
 use Rattle.cesu8_stream.specs.Lossy.{ReadsOn}
 use Rattle.cesu8_stream.proofs.lossy.decode_lossy.Given as goal
 
--- What was read so far was written.
 abbrev pub invariant-loop-found : goal.invariant-loop-found
 invariant-loop-found g l = record {
   within : l.read ≤ length l.bytes;

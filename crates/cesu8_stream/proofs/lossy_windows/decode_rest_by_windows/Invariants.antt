@@ -1,8 +1,9 @@
+-- The lossy reading of the windows read so far is at the start of the buffer. An iteration that
+-- reads nothing is the last one.
 use Rattle.std.proofs.Common.{◌≤◌, ◌-◌, false, length}
 use Rattle.cesu8_stream.specs.Lossy.{ReadsOn}
 use Rattle.cesu8_stream.proofs.lossy_windows.decode_rest_by_windows.Given as goal
 
--- What was read so far was written.
 abbrev pub invariant-loop-read : goal.invariant-loop-read
 invariant-loop-read g l = record {
   within : l.read ≤ length l.bytes;

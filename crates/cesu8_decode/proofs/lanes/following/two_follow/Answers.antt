@@ -5,7 +5,7 @@ use Rattle.std.proofs.lemmas.Bool.{eqb-true}
 use lib.Lanes.{chunk}
 use Rattle.cesu8_decode.specs.Following.{IsBlockAt}
 use Rattle.cesu8_decode.proofs.decoder.FirstLanes.{all_below}
-use Rattle.cesu8_decode.proofs.decoder.FollowingBlocks.{none_misplaced, two_plain, none_of_two, in_both, marked_are, marked_at, marked_if_not_one}
+use Rattle.cesu8_decode.proofs.decoder.ErrorMasks.{no_error, two_plain, none_of_two, in_both, marked_are, marked_at, marked_if_not_one}
 use Rattle.cesu8_decode.proofs.lanes.following.two_follow.Goals as goal
 
 pub returns-then-bits-eq0-2 : goal.returns-then-bits-eq0-2
@@ -28,7 +28,7 @@ returns g c holds =
     let bytes = c.args.bytes.now in
     let at = c.args.at - 4 in
     let behind : c.args.at + 32 - 4 ≡ at + 32 = omega (arith, c.requires) in
-    let first = c.misplaced.ensures bytes at c.block_at-first.ensures in
-    let second = c.misplaced-2.ensures bytes (at + 32) (subst (λ k. IsBlockAt s bytes k c.block_at-second.result) behind c.block_at-second.ensures) in
-    let none = none_of_two c.misplaced.result c.misplaced-2.result (ap length first ∙ sym (ap length second)) (sym c.bits-2.ensures ∙ eqb-true _ 0 holds) in
-    in_both s f bytes at (none_misplaced s f bytes at 32 c.misplaced.result first none.0) (none_misplaced s f bytes (at + 32) 32 c.misplaced-2.result second none.1)
+    let first = c.error_mask.ensures bytes at c.block_at-first.ensures in
+    let second = c.error_mask-2.ensures bytes (at + 32) (subst (λ k. IsBlockAt s bytes k c.block_at-second.result) behind c.block_at-second.ensures) in
+    let none = none_of_two c.error_mask.result c.error_mask-2.result (ap length first ∙ sym (ap length second)) (sym c.bits-2.ensures ∙ eqb-true _ 0 holds) in
+    in_both s f bytes at (no_error s f bytes at 32 c.error_mask.result first none.0) (no_error s f bytes (at + 32) 32 c.error_mask-2.result second none.1)

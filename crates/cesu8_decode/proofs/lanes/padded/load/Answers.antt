@@ -7,8 +7,8 @@ use Rattle.cesu8_bytes.specs.Puts.{PutsAt}
 use Rattle.cesu8_decode.proofs.lanes.padded.load.Goals as goal
 
 -- After a block is stored, zeros are left after it.
-zeros_behind : (source : List ℕ) (at n : ℕ) → drop at source ≡ replicate (n - at) 0 → drop (at + 32) source ≡ replicate (n - (at + 32)) 0
-zeros_behind source at n zeros =
+zeros_after : (source : List ℕ) (at n : ℕ) → drop at source ≡ replicate (n - at) 0 → drop (at + 32) source ≡ replicate (n - (at + 32)) 0
+zeros_after source at n zeros =
     let here : n - at - 32 ≡ n - (at + 32) = omega arith in
     sym (drop-drop 32 at source) ∙ ap (drop 32) zeros ∙ drop-replicate 32 (n - at) 0 ∙ ap (λ m. replicate m 0) here
 
@@ -26,7 +26,7 @@ filled bytes source block new at end n low high room copied zeros is put =
     let first : take (at + 32) new ≡ take at bytes ++ (rest ++ own) =
     ap (λ m. take m new) (sym end_is) ∙ put.writes.bytes ∙ (λ i. copied i ++ is i) in
     let behind : drop (at + 32) new ≡ others =
-    ap (λ m. drop m new) (sym end_is) ∙ put.behind ∙ ap (λ m. drop m source) end_is ∙ zeros_behind source at n zeros in
+    ap (λ m. drop m new) (sym end_is) ∙ put.behind ∙ ap (λ m. drop m source) end_is ∙ zeros_after source at n zeros in
     let all : 32 - length rest + (n - (at + 32)) ≡ n - length bytes = omega (arith, length-drop at bytes) in
     sym (take-append-drop (at + 32) new) ∙ (λ i. first i ++ behind i)
     ∙ append_assoc (take at bytes) (rest ++ own) others ∙ ap (λ bs. take at bytes ++ bs) (append_assoc rest own others)
@@ -55,5 +55,5 @@ returns c =
     let next : c.put_lanes-2.result ≡ 32 = omega (arith, put.writes.end, length-take-le 32 bytes many) in
     filled bytes c.put_lanes-2.new.out c.padded_half-2.result _ 32 _ (length source) many (omega (arith, c.requires.bytes)) (omega (arith, c.requires.room))
     (ap (λ n. take n c.put_lanes-2.new.out) (sym next) ∙ put.writes.bytes)
-    (ap (λ n. drop n c.put_lanes-2.new.out) (sym next) ∙ put.behind ∙ ap (λ n. drop n source) next ∙ zeros_behind source 0 (length source) (from_the_start source c.requires.zeros))
+    (ap (λ n. drop n c.put_lanes-2.new.out) (sym next) ∙ put.behind ∙ ap (λ n. drop n source) next ∙ zeros_after source 0 (length source) (from_the_start source c.requires.zeros))
     (rw take_rest at c.padded_half-2.ensures) c.put_lanes-3.ensures

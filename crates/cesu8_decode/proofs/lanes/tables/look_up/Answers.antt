@@ -1,6 +1,6 @@
 -- The index of each lane is below 16, so the shuffle takes each entry from the table.
 use Rattle.std.proofs.Common.{arith}
-use Rattle.cesu8_decode.proofs.decoder.LookUps.{halves_ok, entries}
+use Rattle.cesu8_decode.proofs.decoder.TableLookups.{halves_ok, entries}
 use Rattle.cesu8_decode.proofs.lanes.tables.look_up.Goals as goal
 
 pub swizzle : goal.swizzle

@@ -1,7 +1,7 @@
 -- The lanes are the bytes with zeros after them. So the window of all offsets ends with the bytes.
 use Rattle.std.proofs.Common.{ℕ, List, ◌+◌, ◌<◌, ◌≡◌, ◌++◌, get_or, replicate, ap, sym, ◌∙◌, zero-add}
 use Rattle.cesu8_decode.proofs.by_offset.CharacterBoundaries.{boundary_of_zeros}
-use Rattle.cesu8_decode.proofs.decoder.FewWindows.{alike_with_zeros, ends_with_bytes}
+use Rattle.cesu8_decode.proofs.decoder.PaddedWindows.{alike_with_zeros, ends_with_bytes}
 use Rattle.cesu8_decode.proofs.lanes.windows.window_of_few.Goals as goal
 
 -- The lanes agree with the bytes at every offset.

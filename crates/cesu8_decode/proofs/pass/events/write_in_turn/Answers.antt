@@ -1,6 +1,6 @@
 -- The loop's state holds before the first event, after a run of ill-formed bytes, and after a
 -- character that needs conversion. When no event is left, the rest of the window is copied.
-use Rattle.std.proofs.Common.{◌≤◌, ◌+◌, ◌∙◌, sym, arith, length}
+use Rattle.std.proofs.Common.{◌+◌, ◌∙◌, sym, arith}
 use Rattle.std.specs.Int.{trailing_zeros, w64}
 use Rattle.cesu8_decode.proofs.decoder.Events.{none_read, next_low, next_inside, event_room, pair_marked, run_room, run_read, changed_read, rest_copied, bit_tested}
 use Rattle.cesu8_decode.proofs.decoder.WindowEnds.{null_set}

@@ -3,7 +3,7 @@
 use Rattle.std.proofs.Common.{arith, sym}
 use Rattle.cesu8_bytes.specs.declared.strictness.Strictness.TheVariants.{Lossy}
 use Rattle.cesu8_decode.proofs.by_offset.CharacterBoundaries.{boundary_of_zeros}
-use Rattle.cesu8_decode.proofs.decoder.FewWindows.{alike_with_zeros, window_of_alike}
+use Rattle.cesu8_decode.proofs.decoder.PaddedWindows.{alike_with_zeros, window_of_alike}
 use Rattle.cesu8_decode.proofs.decoder.Passes.{text_of_window}
 use Rattle.cesu8_decode.proofs.pass.few.write_lossily.Goals as goal
 

@@ -2,7 +2,7 @@
 -- that of the bytes in either strictness.
 use Rattle.std.proofs.Common.{arith}
 use Rattle.cesu8_decode.proofs.by_offset.CharacterBoundaries.{boundary_of_zeros}
-use Rattle.cesu8_decode.proofs.decoder.FewWindows.{alike_with_zeros}
+use Rattle.cesu8_decode.proofs.decoder.PaddedWindows.{alike_with_zeros}
 use Rattle.cesu8_decode.proofs.decoder.Passes.{text_of_window}
 use Rattle.cesu8_decode.proofs.pass.few.write_well_formed.Goals as goal
 

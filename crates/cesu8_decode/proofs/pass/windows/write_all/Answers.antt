@@ -2,11 +2,8 @@
 use Rattle.std.proofs.Common.{[], refl, arith}
 use Rattle.cesu8_decode.specs.DecodedOffsets.{window_of}
 use Rattle.cesu8_decode.proofs.decoder.BlocksInPlace.{none_decoded}
-use Rattle.cesu8_decode.proofs.decoder.Passes.{at_start, reads_on, writes_reading}
+use Rattle.cesu8_decode.proofs.decoder.Passes.{reads_on, writes_reading}
 use Rattle.cesu8_decode.proofs.pass.windows.write_all.Goals as goal
-
-pub write_windows-pass-requires-clause-pass : goal.write_windows-pass-requires-clause-pass
-write_windows-pass-requires-clause-pass g c = at_start g.F.Flavor.flavor c.args.bytes.now
 
 pub returns : goal.returns
 returns g c =

@@ -1,3 +1,4 @@
+-- What decoding damaged input needs to know of the lossy reading, from the laws of `simd_cesu8`.
 use Rattle.cesu8_stream.proofs.LossyReadings.{text_read, damage_read}
 use Rattle.cesu8_stream.proofs.LossyWindows.{parts_read}
 use Rattle.cesu8_stream.proofs.decoding.FromEncodingDecoding.lossy_laws.Goals as goal

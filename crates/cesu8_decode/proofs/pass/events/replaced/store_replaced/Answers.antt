@@ -1,8 +1,7 @@
 -- Each of the four vectors has four of the bytes and a replacement character in its first lanes.
 -- What is stored for them, one after another, is what is written for the sixteen bytes.
-use Rattle.std.proofs.Common.{ℕ, ◌+◌, ◌<◌, ◌≤◌, ◌++◌, ap, ◌∙◌, subst, arith, bit_and}
+use Rattle.std.proofs.Common.{ℕ, ◌+◌, ◌≤◌, ◌++◌, ap, ◌∙◌, subst, arith}
 use Rattle.std.specs.List.{range_with_len}
-use Rattle.std.proofs.lemmas.Nat.{and_le_r}
 use lib.Lanes.{chunk, pick_l}
 use Rattle.cesu8_bytes.specs.Puts.{WritesAt}
 use Rattle.cesu8_bytes.proofs.lists.Stored.{written_by_four}
@@ -10,22 +9,6 @@ use Rattle.cesu8_bytes.proofs.vectors.Rows.{lanes_of_first, lanes_of_second}
 use Rattle.cesu8_decode.proofs.decoder.EventsRows.{kept_of_half}
 use Rattle.cesu8_decode.specs.declared.pass.events.replaced.TheConstants.{REPLACEMENTS}
 use Rattle.cesu8_decode.proofs.pass.events.replaced.store_replaced.Goals as goal
-
--- The lower four bits are one of sixteen row numbers.
-is_set : (bits : ℕ) → bit_and bits 0x0F < 0x10
-is_set bits = omega (arith, and_le_r bits 0x0F)
-
-pub store_four-at-requires-clause-small : goal.store_four-at-requires-clause-small
-store_four-at-requires-clause-small c = is_set _
-
-pub store_four-at-requires-2-clause-small : goal.store_four-at-requires-2-clause-small
-store_four-at-requires-2-clause-small c = is_set _
-
-pub store_four-at-requires-3-clause-small : goal.store_four-at-requires-3-clause-small
-store_four-at-requires-3-clause-small c = is_set _
-
-pub store_four-requires-clause-small : goal.store_four-requires-clause-small
-store_four-requires-clause-small c = is_set _
 
 pub returns : goal.returns
 returns c tests long is =

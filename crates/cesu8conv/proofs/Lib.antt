@@ -1,4 +1,0 @@
-pub mod Joined
-pub mod Steps
-pub mod Pieces
-pub mod Streams

@@ -1,0 +1,12 @@
+-- A strict step is a lossy one, and if it stopped at the first byte, U+FFFD is the lossy conversion
+-- of that byte.
+use Rattle.cesu8conv_run.proofs.Steps.{replaced-step, lossy-of-decoded, lossy-replaces}
+use Rattle.cesu8conv_run.specs.declared.conversion.Conversion.TheVariants.{Decode, Lossy}
+use Rattle.cesu8conv_run.proofs.step.lossy_step.Goals as goal
+
+pub returns : goal.returns
+returns c =
+    replaced-step (Decode c.args.flavor) (Lossy c.args.flavor) c.args.bytes.now c.args.is_last c.decode_step.new.room c.replace.new.room
+    c.decode_step.result c.replace.result (λ taken ahead x. lossy-of-decoded c.around.ensures c.args.flavor c.args.is_last taken ahead x)
+    (λ byte rest. lossy-replaces c.places.ensures.text c.places.ensures.exists c.args.flavor c.args.is_last byte rest)
+    c.decode_step.ensures c.replace.ensures

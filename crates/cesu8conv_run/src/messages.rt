@@ -1,0 +1,85 @@
+//! What the program prints of faults, and the status that it ends with.
+
+use crate::conversion::Conversion;
+use crate::fault::Fault;
+use crate::hex::Hex;
+use crate::inputs::{Inputs, line_ends};
+use crate::options::Options;
+use crate::reason::reason_of;
+use crate::target::Target;
+use std::io::{self, ErrorKind};
+
+/// The statuses.
+pub const DONE: u8 = 0;
+
+pub const DAMAGED: u8 = 1;
+
+pub const MEMORY: u8 = 3;
+
+pub const IO: u8 = 4;
+
+/// Says why a conversion stopped, and returns the status.
+pub fn explain(
+    rt: &HostRuntime,
+    conversion: Conversion,
+    options: &Options<'_>,
+    input: &Inputs<'_>,
+    output: &Target<'_>,
+    fault: &Fault,
+    window: &[u8],
+) -> u8 {
+    match fault {
+        Fault::Damage(offset, ahead) => {
+            if !options.is_quiet {
+                let ahead = &window[..(*ahead).min(window.len())];
+                let _ = say_damage(rt, conversion, input, *offset, ahead);
+                let right = output.written;
+                if options.output.is_none() {
+                    let _ = eprintln!(rt; "cesu8conv: {right} bytes of output are right");
+                }
+            }
+            DAMAGED
+        }
+        Fault::Read(error) => say(rt, input.name(), error),
+        Fault::Write(error) => say(rt, output.name, error),
+        Fault::Size => {
+            let _ = eprintln!(rt; "cesu8conv: the input is too long");
+            IO
+        }
+    }
+}
+
+/// Prints the line for damage: file, line, offset, bytes and reason.
+fn say_damage(
+    rt: &HostRuntime,
+    conversion: Conversion,
+    input: &Inputs<'_>,
+    offset: u64,
+    ahead: &[u8],
+) -> io::Result<()> {
+    let (name, start) = input.file_at(offset);
+    let before = input.lines().saturating_sub(line_ends(ahead) as u64);
+    let line = before.saturating_sub(start.lines).saturating_add(1);
+    let at = offset.saturating_sub(start.offset);
+    let reason = reason_of(conversion, ahead);
+    let bytes = Hex(&ahead[..reason.shown.min(ahead.len())]);
+    let text = reason.text;
+    eprintln!(rt; "cesu8conv: {name}:{line}: byte {at}: {bytes}: {text}")
+}
+
+/// Says what failed, with the system's message. A reader that went away is no news.
+pub fn say(rt: &HostRuntime, name: &str, error: &io::Error) -> u8 {
+    match error.kind() {
+        ErrorKind::BrokenPipe => IO,
+        ErrorKind::OutOfMemory => out_of_memory(rt),
+        _ => {
+            let _ = eprintln!(rt; "cesu8conv: {name}: {error}");
+            IO
+        }
+    }
+}
+
+pub fn out_of_memory(rt: &HostRuntime) -> u8 {
+    let _ = rt.eprintln("cesu8conv: out of memory");
+    MEMORY
+}
