@@ -81,6 +81,7 @@ impl<'a> Case<'a> {
         !self.action.tells_length() && pairs.all(|(input, answer)| answer.as_deref() == Some(input))
     }
 
+    /// Tests that a call returns the right result for each input.
     fn check(&self, codec: &Codec, call: Call) -> Result<(), String> {
         for (input, answer) in self.inputs.iter().zip(&self.answers) {
             let question = Question {
@@ -95,10 +96,12 @@ impl<'a> Case<'a> {
         Ok(())
     }
 
+    /// Tests that a call on all inputs returns the sum of the lengths of the right results.
     fn check_sum(&self, codec: &Codec, call: EachCall) -> Result<(), String> {
         let answers = self.answers.iter().flatten();
         let sum: usize = answers.map(|answer| answer.len()).sum();
         let Inputs { bytes, length } = self.inputs;
+        // SAFETY: the pointer and the length are those of `bytes`, which are never freed.
         let outcome = unsafe { call(bytes.as_ptr(), bytes.len(), length, 1) };
         if outcome.has_answer && outcome.length == sum {
             return Ok(());

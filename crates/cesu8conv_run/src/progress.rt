@@ -1,4 +1,5 @@
-//! The line on standard error that says how far a conversion is.
+//! The line on standard error that says how far a conversion is. Each line begins with a carriage
+//! return and the terminal's code that clears a line, so it replaces the one before it.
 
 use std::io;
 use std::time::Instant;
@@ -44,6 +45,7 @@ impl<'a> Progress<'a> {
         let rate = (offset / millis.max(1)).saturating_mul(1000);
         let done = offset / 1_000_000;
         let speed = rate / 1_000_000;
+        // The total can also be too small, if a file has grown since.
         if self.total < offset || rate == 0 {
             let _ = eprint!(self.rt; "\r\x1b[K{done} MB, {speed} MB/s");
         } else {

@@ -108,7 +108,8 @@ fn first_wrong_place(fill: u8, lengths: RangeInclusive<usize>) -> Option<(usize,
     None
 }
 
-/// Asserts that no kernel is wrong for these lengths.
+/// Asserts that no kernel is wrong for these lengths. The work for a length grows with its square.
+/// So the tests below divide the lengths unevenly, to take about equally long.
 fn assert_found(rt: &impl Abort, fill: u8, lengths: RangeInclusive<usize>) {
     assert_eq!(rt; first_wrong_place(fill, lengths), None);
 }

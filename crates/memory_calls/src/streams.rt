@@ -1,4 +1,4 @@
-//! The calls that convert a piece to a buffer of the caller's, and make no request.
+//! The calls that convert a piece to a buffer of the caller's, and allocate nothing.
 
 use crate::prints::print_outcome;
 use cesu8_stream::{Progress, State, mutf8};

@@ -225,7 +225,7 @@ fn stops_at_malformed_bytes(rt: HostRuntime) -> Result<(), Fail> {
     Ok(())
 }
 
-/// Damaged bytes of both encodings, and their lossy reading in UTF-8.
+/// Bytes, most of them damaged, and their lossy reading in UTF-8, which both encodings give.
 pub const DAMAGED: [(&[u8], &str); 8] = [
     (b"a\xFFb", "a\u{FFFD}b"),
     (b"\xE2\x82A", "\u{FFFD}\u{FFFD}A"),
@@ -288,7 +288,8 @@ fn reads_damage_in_two_pieces(rt: HostRuntime) -> Result<(), Fail> {
     Ok(())
 }
 
-/// Reads damaged bytes through a buffer of this size.
+/// Reads damaged bytes through a buffer of this size. Each call reads a byte or more of the at most
+/// nine, so 16 calls are enough.
 fn expect_through(
     rt: &impl Abort,
     alloc: Global,

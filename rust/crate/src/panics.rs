@@ -1,7 +1,8 @@
-//! The panics, each one function for all levels.
+//! The panics, each one function for all processor levels. All but `capacity_overflow` are for
+//! tests before `unsafe` code, which the proved code never fails.
 #![allow(dead_code)] // The plain form has the first alone.
 
-/// The length of a text fits no `usize`. Memory that is refused ends the process before.
+/// The length of a text fits no `usize`. If memory is refused, the process has ended before this.
 #[cold]
 #[inline(never)]
 pub(crate) fn capacity_overflow() -> ! {

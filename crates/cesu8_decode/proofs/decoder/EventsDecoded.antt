@@ -28,9 +28,11 @@ use Rattle.cesu8_decode.proofs.chunks.Changed.{pair_width, pair_read, seen_null_
 byte_there : (bytes : List ℕ) (i : ℕ) → get_or (window_of bytes) (i + 5) 0 ≡ get_or bytes i 0
 byte_there bytes i = let offset : i + 5 ≡ 5 + i = omega arith in ap (λ p. get_or (window_of bytes) p 0) offset ∙ follows_zeros bytes i
 
+-- The k-th byte from an offset on is in the window five bytes later too.
 byte_after : (bytes : List ℕ) (i k : ℕ) → get_or (window_of bytes) (i + 5 + k) 0 ≡ get_or bytes (i + k) 0
 byte_after bytes i k = let offset : i + 5 + k ≡ i + k + 5 = omega arith in ap (λ p. get_or (window_of bytes) p 0) offset ∙ byte_there bytes (i + k)
 
+-- The first five bytes of a window are zeros.
 zeros_before : (bytes : List ℕ) (i : ℕ) → i < 5 → get_or (window_of bytes) i 0 ≡ 0
 zeros_before bytes i small = eqb-true _ _ (agree_below_at (λ s. eqb (get_or (window_of bytes) s 0) 0) (λ _. true) 5 i refl small)
 
@@ -49,13 +51,16 @@ lead_second : (f : Flavor) (a b d e g h : ℕ) → eqb (first_width_by f a b d e
 unfolding first_width_by
 lead_second f a b d e g h other lead = grind (arith, nat_tests)
 
+-- C0 is not the third byte of a character of three bytes.
 no_three : (a b d : ℕ) → d ≡ 0xC0 → three_at a b d ≡ false
 no_three a b d lead = grind (arith, nat_tests)
 
+-- A width that is not 3 and not 6 is at most 2.
 low_chain : (one null two three pair : Bool) → three ≡ false → let n : ℕ = cond one 1 (cond null 2 (cond two 2 (cond three 3 (cond pair 6 0)))) in
     eqb n 6 ≡ false → n ≤ 2
 low_chain one null two three pair none other = grind (arith, nat_tests)
 
+-- If the third byte is C0, a character that is no surrogate pair has at most two bytes.
 lead_third : (f : Flavor) (a b d e g h : ℕ) → eqb (first_width_by f a b d e g h) 6 ≡ false → d ≡ 0xC0 → first_width_by f a b d e g h ≤ 2
 unfolding first_width_by
 lead_third f a b d e g h other lead = low_chain (one_at f a) (null_at f a b) (two_at a b) (three_at a b d) (pair_at a b d e g h) (no_three a b d lead) other
@@ -120,11 +125,13 @@ module _ (f : Flavor) (bytes : List ℕ) where
     pub no_lone_lead : (i : ℕ) → at ≤ i → i < at + n → is_null_at f bytes i ≡ false → is_ill_formed_at f (window_of bytes) i ≡ false → get_or bytes i 0 ≡ 0xC0 → ⊥
     no_lone_lead i low inside null fine lead = grind (arith, nat_tests, byte_there, byte_after, lead_first, lead_second, no_pair_at, lead_third, no_cover)
 
+  -- After a boundary, each of n bytes at which no event is becomes itself.
   kept_at : (at n : ℕ) → is_boundary_at f (window_of bytes) at ≡ true → ((i : ℕ) → at ≤ i → i < at + n → NoEventAt f bytes i) →
       (i : ℕ) → at ≤ i → i < at + n → decoded_at f (window_of bytes) i ≡ get_or bytes i 0 ∷ []
   kept_at at n boundary stay i low inside =
       plain_at at n boundary (λ i low inside. (stay i low inside).pair) i low inside (stay i low inside).null (λ j low there. (stay j low (omega arith)).null) (stay i low inside).fine
 
+  -- If each of n bytes becomes itself, these bytes are what decoding writes for them.
   kept_range : (at n : ℕ) → at + n ≤ length bytes → ((i : ℕ) → at ≤ i → i < at + n → decoded_at f (window_of bytes) i ≡ get_or bytes i 0 ∷ []) →
       take n (drop at bytes) ≡ decoded f (window_of bytes) at n
   unfolding decoded
@@ -250,6 +257,7 @@ module _ (f : Flavor) (bytes : List ℕ) where
 
 -- ---- replacement characters
 
+-- The UTF-8 of m + n replacement characters is that of m and then that of n.
 replacements_more : (m n : ℕ) → utf8 (replicate (m + n) 0xFFFD) ≡ utf8 (replicate m 0xFFFD) ++ utf8 (replicate n 0xFFFD)
 unfolding utf8_of
 replacements_more zero n = ap (λ k. utf8 (replicate k 0xFFFD)) (zero-add n)
@@ -257,6 +265,7 @@ replacements_more (suc m) n =
     let rest = replacements_more m n in
     ap (λ k. utf8 (replicate k 0xFFFD)) (suc-add m n) ∙ (λ k. 0xEF ∷ 0xBF ∷ 0xBD ∷ rest k)
 
+-- Each replacement character has three bytes.
 pub length_replacements : (n : ℕ) → length (utf8 (replicate n 0xFFFD)) ≡ 3 * n
 unfolding utf8_of
 length_replacements zero = refl

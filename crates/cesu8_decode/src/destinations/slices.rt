@@ -43,6 +43,8 @@ pub fn put_strictly<F: Flavor>(
     requires { IsProperPrefix F.flavor bytes.now prefix }
     ensures { PutsReading F.flavor Strict bytes.now result buf.old buf.new }
 {
+    // The prefix is not all of the bytes. So if no character needs conversion, a byte is
+    // ill-formed. The mask `changed` is also 0 if a byte is ill-formed.
     if are_few(bytes) {
         if prefix.changed == 0 {
             return Err(WriteError::NoText);
@@ -67,6 +69,8 @@ fn put_after_prefix<F: Flavor>(
     if !begins_changed::<F>(rest) {
         return Err(WriteError::NoText);
     }
+    // If the slice is shorter than the prefix, no byte is left for the rest. Its text has at least
+    // one, so the result is an error.
     let start = prefix.min(buf.len());
     match put_by_strategy::<F>(rest, &mut buf[start..]) {
         Ok(len) => {

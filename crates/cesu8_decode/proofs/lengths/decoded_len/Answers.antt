@@ -13,6 +13,7 @@ use Rattle.cesu8_decode.proofs.chunks.UnchangedPrefixes.{all_unchanged, unchange
 use Rattle.cesu8_decode.proofs.lengths.decoded_len.Goals as goal
 use Rattle.cesu8_decode.proofs.lengths.decoded_len.Goals.{then-not-begins_changed-via-then-not-begins_changed, then-not-begins_changed-via-else-not-begins_changed+then-is_ill_formed}
 
+-- Nothing follows the unchanged prefix, so the bytes are their own text.
 pub returns-then-is_empty-clause-some : goal.returns-then-is_empty-clause-some
 returns-then-is_empty-clause-some g c =
     let f = g.F.Flavor.flavor in
@@ -23,6 +24,8 @@ returns-then-is_empty-clause-some g c =
     of_length (IsStrictReading f bytes) (λ len. n ≡ len) _ bytes
     (only_kept f bytes _ _ _ (encoding_texts f bytes) Strict ((all_unchanged f bytes n c.unchanged_prefix-prefix.ensures.len).0 all)) all
 
+-- No character that needs conversion follows the prefix, or a byte after it is ill-formed. In both
+-- cases there is no strict reading.
 pub returns-then-not-begins_changed-clause-none : goal.returns-then-not-begins_changed-clause-none
 returns-then-not-begins_changed-clause-none g c =
     let f = g.F.Flavor.flavor in
@@ -48,6 +51,7 @@ returns-in_err-rest_len-clause-none g c =
     let short = strict_no_longer f rest (rw take_rest at (c.is_ill_formed.ensures.whole c.if-is_ill_formed.false)) in
     absurd (omega (arith, short, rw take_rest at c.in_err-rest_len.ensures.none, length-drop c.unchanged_prefix-prefix.result.len c.args.bytes.now))
 
+-- The text is no longer than the bytes, so the sum does not overflow.
 pub overflow_add-result : goal.overflow_add-result
 overflow_add-result g c =
     let f = g.F.Flavor.flavor in
@@ -61,6 +65,7 @@ overflow_add-result g c =
       c.unchanged_prefix-prefix.ensures.len.within,
     )
 
+-- No byte is ill-formed: the result is the sum.
 pub returns-clause-some : goal.returns-clause-some
 unfolding lossy_length
 returns-clause-some g c =

@@ -1,4 +1,5 @@
--- If the block is unchanged, its encoding is the 32 bytes that are stored.
+-- If the block is unchanged, its encoding is the 32 bytes that are stored. The block begins two
+-- bytes after `at` (`READ_BEFORE`).
 use Rattle.std.proofs.Common.{◌+◌, ap, arith, length}
 use Rattle.std.proofs.lemmas.Simd.{length-chunk}
 use Rattle.cesu8_encode.proofs.middle_blocks.CopyUnchangedBlockWriter.write.Goals as goal

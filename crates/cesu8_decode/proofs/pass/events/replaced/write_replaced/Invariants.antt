@@ -1,4 +1,5 @@
--- Before each round the first `written` bytes of the window, and of those after it, are packed.
+-- Before each round the first `written` of the 64 bytes from the start of the window on are packed.
+-- Some of these can be after its end.
 use Rattle.std.proofs.Common.{◌-◌}
 use Rattle.cesu8_decode.proofs.decoder.EventsPacked.{replaced, AreStored}
 use Rattle.cesu8_decode.proofs.pass.events.replaced.write_replaced.Given as goal
