@@ -5,6 +5,7 @@ use crate::expected::encoded;
 use std::alloc::{Layout, alloc};
 use std::{ptr, slice};
 
+/// A multiple of the lengths of the patterns that are repeated below, and of those of all characters.
 pub const INPUT_LENGTH: usize = 16_380;
 pub const SEED: u64 = 16_380;
 
@@ -45,8 +46,10 @@ pub struct Set {
 /// The copy is never freed.
 pub fn at_page_start(bytes: &[u8]) -> &'static mut [u8] {
     let layout = Layout::from_size_align(bytes.len(), 4096).expect("a few pages");
+    // SAFETY: no input is empty.
     let start = unsafe { alloc(layout) };
     assert!(!start.is_null(), "out of memory");
+    // SAFETY: so many bytes begin at `start`, which nothing else refers to, and all are written.
     unsafe {
         ptr::copy_nonoverlapping(bytes.as_ptr(), start, bytes.len());
         slice::from_raw_parts_mut(start, bytes.len())

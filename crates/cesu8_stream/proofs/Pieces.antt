@@ -80,7 +80,7 @@ ended from to widest bytes old new n w state facts within moves why stuck = reco
             let w_zero = nothing.0 in
             absurd (omega arith)
 
--- A step, and then a whole call.
+-- A step, and then a call on the rest of the bytes, are a call on all of them.
 pub continued : (from to : List ℕ → List ℕ) (widest : ℕ) (bytes old mid new : List ℕ) (m w : ℕ) (rest : Progress) →
     IsConversion from to widest → m ≤ length bytes → length mid ≡ length old → Converts from to bytes m w old mid →
     ConvertsPiece from to widest (drop m bytes) rest (drop w mid) new →

@@ -1,5 +1,5 @@
-//! Converts files and streams of any size between UTF-8, CESU-8 and Modified UTF-8. `cesu8conv_run` has
-//! all but the command line.
+//! Converts files and streams of any size between UTF-8, CESU-8 and Modified UTF-8. `cesu8conv_run`
+//! has all but the command line.
 #![tactic(auto)]
 
 mod command_line;
@@ -25,6 +25,7 @@ fn run(rt: &HostRuntime) -> u8 {
         Err(error) => return say(rt, "arguments", &error),
     };
     let commands = commands();
+    // `cesu-8` and `mutf-8` are accepted too.
     let flavors = flavors(&["cesu-8"], &["mutf-8"]);
     let Ok(mut line) = command_line(rt.alloc(), &commands, &flavors) else {
         return out_of_memory(rt);

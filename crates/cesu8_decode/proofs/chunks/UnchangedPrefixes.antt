@@ -41,6 +41,7 @@ unchanged_prefix f bytes unchanged =
 pub in_utf8 : (f : Flavor) (bytes : List ℕ) → (whole : AreWhole Unchanged f bytes) → utf8 whole.text ≡ bytes
 in_utf8 f bytes whole = sym (encoding_same f whole.text whole.reads.0 whole.inside) ∙ whole.reads.1
 
+-- Whole unchanged characters are UTF-8 in which nothing needs conversion.
 whole_unchanged : (f : Flavor) (bytes : List ℕ) → AreWhole Unchanged f bytes → IsUnchangedUtf8 f bytes
 whole_unchanged f bytes whole =
     let is = in_utf8 f bytes whole in
@@ -73,6 +74,7 @@ module _ (f : Flavor) (bytes : List ℕ) (n : ℕ) (prefix : IsLongestPrefix Unc
   rest_utf8 : IsUtf8 bytes → IsUtf8 (drop n bytes)
   rest_utf8 is_utf8 = IsUtf8-drop bytes n is_utf8 (IsCharBoundary-from_take bytes n is_utf8 prefix.within prefix_unchanged.0)
 
+  -- If the bytes after the prefix are the UTF-8 of a text, its first character needs conversion.
   by_text : (text : List ℕ) → IsText text → utf8 text ≡ drop n bytes → n < length bytes → IsChangedByte f (get_or (drop n bytes) 0 0)
   by_text [] is_text are more = absurd (omega (arith, ap length are, length-drop n bytes))
   by_text (c ∷ text) is_text are more = by_first (change f c is_text.0)

@@ -75,6 +75,7 @@ fn window_of_lanes<F: Flavor, const N: usize>(lanes: Simd<u8, N>, count: usize) 
     let threes = masks.threes | masks.pairs | (masks.pairs << 3);
     let begins = masks.twos | masks.nulls | threes;
     let covered = begins | (begins << 1) | (threes << 2);
+    // After 64 offsets the bytes are zeros (see `window_at`), so no character goes on there.
     let rest = if count == LANES {
         0
     } else {

@@ -30,6 +30,7 @@ to_end start buf new =
 stays : (start : ℕ) (buf new : List ℕ) → new ≡ drop start buf → put_mid start (length buf - start) buf new ≡ buf
 stays start buf new same = to_end start buf new ∙ ap (λ bs. take start buf ++ bs) same ∙ take-append-drop start buf
 
+-- The text of the rest has at least one byte and fits, so the slice is longer than the prefix.
 pub copy_short-requires : goal.copy_short-requires
 copy_short-requires g c =
     let bytes = c.args.bytes.now in
@@ -66,6 +67,7 @@ returns-in-Ok g c =
     (c.copy_short.ensures ∙ ap (λ bs. take n bytes ++ bs)
     (ap (drop (length (take n bytes))) (to_end start buf new) ∙ ap (λ m. drop m (take start buf ++ new)) long ∙ drop-append_seam (take start buf) new))
 
+-- The text of the rest is no longer than the rest, so the sum does not overflow.
 pub overflow_add-result-in-Err-NoRoom : goal.overflow_add-result-in-Err-NoRoom
 overflow_add-result-in-Err-NoRoom g c =
     let n = c.args.prefix in
