@@ -37,6 +37,7 @@ two_at a b = nat_le 0xC2 a && (nat_lt a 0xE0 && continues b)
 abbrev pub fits_three : ℕ → ℕ → Bool
 fits_three a b = if a == 0xE0 then nat_le 0xA0 b else if a == 0xED then nat_lt b 0xA0 else true
 
+-- Bytes a, b and d are a character of three bytes.
 abbrev pub three_at : ℕ → ℕ → ℕ → Bool
 three_at a b d = nat_le 0xE0 a && (nat_lt a 0xF0 && (continues b && (continues d && fits_three a b)))
 

@@ -21,7 +21,8 @@ const PAIR: usize = 6;
 
 const REPLACEMENT: &str = "\u{FFFD}";
 
-/// Returns the offset of the first byte that leads four bytes, or, in MUTF-8, is 00.
+/// Returns the offset of the first byte that is F0 or more, or, in MUTF-8, is 00. In UTF-8 a byte
+/// of F0 or more leads four bytes.
 fn first_changed(is_mutf8: bool, bytes: &[u8]) -> usize {
     const HIGH: u64 = 0x8080_8080_8080_8080;
     let is_changed = |byte: &u8| *byte >= 0xF0 || is_mutf8 && *byte == 0;
@@ -30,6 +31,8 @@ fn first_changed(is_mutf8: bool, bytes: &[u8]) -> usize {
         let word = u64::from_le_bytes([
             word[0], word[1], word[2], word[3], word[4], word[5], word[6], word[7],
         ]);
+        // `leads` is 0 if and only if no byte has its four highest bits set, and `nulls` if and only
+        // if no byte is 00.
         let leads = word & word << 1 & word << 2 & word << 3 & HIGH;
         let nulls = if is_mutf8 { word.wrapping_sub(HIGH >> 7) & !word & HIGH } else { 0 };
         if leads | nulls != 0 {

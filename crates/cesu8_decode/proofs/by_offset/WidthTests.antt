@@ -18,9 +18,11 @@ use Rattle.cesu8_decode.proofs.by_offset.FirstWidths.{width_of_first, width_of_n
 long_by : (bytes : List ℕ) (i : ℕ) → 0 < get_or bytes i 0 → i < length bytes
 long_by bytes i some = ⊎_elim (λ h. h) (λ past. absurd (omega (arith, get_or_past bytes i 0 past))) (cases_lt i (length bytes))
 
+-- A byte that passes the test `continues` is a continuation byte.
 pub continuation : (b : ℕ) → continues b ≡ true → IsContinuation b
 continuation b t = let h = and_parts (leb 0x80 b) (ltb b 0xC0) t in (leb-true 0x80 b h.0, ltb-true b 0xC0 h.1)
 
+-- A continuation byte passes the test `continues`.
 pub is_continuation : (b : ℕ) → 0x80 ≤ b → b < 0xC0 → continues b ≡ true
 is_continuation b low high = and_from (leb 0x80 b) (ltb b 0xC0) (le-leb 0x80 b low) (lt-ltb b 0xC0 high)
 
@@ -105,6 +107,7 @@ by_chain : (one null two three pair : Bool) → let w : ℕ = cond one 1 (cond n
     × (w ≡ 3 → three ≡ true) × (w ≡ 2 → (null ≡ true) ⊎ (two ≡ true))
 by_chain one null two three pair = grind (arith, nat_tests)
 
+-- What the width of the character that begins six bytes says of the five tests (`by_chain`).
 pub width_tells : (f : Flavor) (a b d e g h : ℕ) → let w = first_width_by f a b d e g h in
     ((w ≤ 3) ⊎ (w ≡ 6)) × (eqb w 1 ≡ one_at f a) × (leb 1 w ≡ cond (leb w 1) (one_at f a) true) × (w ≡ 6 → pair_at a b d e g h ≡ true)
     × (w ≡ 3 → three_at a b d ≡ true) × (w ≡ 2 → (null_at f a b ≡ true) ⊎ (two_at a b ≡ true))

@@ -33,6 +33,7 @@ filled bytes source block new at end n low high room copied zeros is put =
     ∙ sym (append_assoc (take at bytes) rest (own ++ others))
     ∙ (λ i. take-append-drop at bytes i ++ replicate-append-replicate (32 - length rest) (n - (at + 32)) 0 i) ∙ ap (λ m. bytes ++ replicate m 0) all
 
+-- Before anything is stored, the source has zeros from offset 0 on.
 from_the_start : (source : List ℕ) → source ≡ replicate (length source) 0 → drop 0 source ≡ replicate (length source - 0) 0
 from_the_start source zeros =
     let none : length source ≡ length source - 0 = omega arith in
