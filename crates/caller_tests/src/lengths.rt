@@ -2,20 +2,21 @@
 //! The contract of such a call lets it run out of memory at any time, so no proof refuses one that
 //! says so of a length of its own.
 
+use crate::asserts::assert_of;
 use java_text::{
     read_utf, read_utf_lossy, read_utf_lossy_to_slice, read_utf_to_slice, write_utf,
     write_utf_to_slice,
 };
 use std::alloc::{AllocError, Global};
+use std::ops::RangeInclusive;
 use std::process::Abort;
-use std::test::Fail;
-use test_cases::decoders::Decoder;
+use std::str;
+use test_cases::decoders::{DECODERS, Decoder};
 use test_cases::fills::{filled, joined};
 use test_cases::flavors::{
-    FLAVORS, Flavor, counted, decode_lossy_strict_to_slice, decode_lossy_to_slice,
-    decode_strict_front, decode_strict_to_slice, decode_to_slice, encode, encode_into,
-    encode_to_slice,
+    FLAVORS, Flavor, counted, decode_strict_front, encode, encode_into, encode_to_slice,
 };
+use test_cases::slices::SliceCall;
 
 /// ASCII, to fill many bytes at once.
 const ASCII: &[u8] = &[b'a'; 4096];
@@ -34,166 +35,237 @@ fn ending_with(alloc: Global, len: usize, end: &[u8]) -> Result<Vec<u8>, AllocEr
     joined(alloc, &[front.as_slice(), end])
 }
 
-/// Makes each call that encodes a text. The error is the name of one that gives up.
-fn encode_all(alloc: Global, flavor: Flavor, text: &str) -> Result<(), &'static str> {
-    let encoding = encode(alloc, flavor, text).or(Err("encode"))?;
-    let mut bytes = encoding.into_vec(alloc).or(Err("into_vec"))?;
-    encode_to_slice(flavor, text, bytes.as_mut_slice()).or(Err("encode_to_slice"))?;
-    encode_into(flavor, text, &mut bytes).or(Err("encode_into"))?;
-    let counted = counted(flavor, text);
-    counted.encode_into(&mut bytes).or(Err("CountedText"))
+/// Makes each call that encodes a text or appends its encoding. Returns the name of the first one
+/// that gives up.
+fn encode_all(alloc: Global, flavor: Flavor, text: &str) -> Option<&'static str> {
+    let Ok(encoding) = encode(alloc, flavor, text) else {
+        return Some("encode");
+    };
+    let Ok(mut bytes) = encoding.into_vec(alloc) else {
+        return Some("into_vec");
+    };
+    if encode_to_slice(flavor, text, bytes.as_mut_slice()).is_err() {
+        Some("encode_to_slice")
+    } else if encode_into(flavor, text, &mut bytes).is_err() {
+        Some("encode_into")
+    } else if counted(flavor, text).encode_into(&mut bytes).is_err() {
+        Some("CountedText")
+    } else {
+        None
+    }
 }
 
-/// Makes a call that decodes bytes, and copies the text if it is borrowed.
-fn decode_by(
+/// Whether a call decodes bytes, and the text is copied if it is borrowed.
+fn decodes(alloc: Global, flavor: Flavor, decoder: Decoder, bytes: &[u8]) -> bool {
+    match decoder.call(alloc, flavor, bytes) {
+        Ok(text) => text.into_string(alloc).is_ok(),
+        Err(_) => false,
+    }
+}
+
+/// Whether `decode_strict_front` decodes all bytes, and the text is copied if it is borrowed.
+fn decodes_front(alloc: Global, flavor: Flavor, bytes: &[u8]) -> bool {
+    match decode_strict_front(alloc, flavor, bytes, bytes.len()) {
+        Ok(text) => text.into_string(alloc).is_ok(),
+        Err(_) => false,
+    }
+}
+
+/// Whether a call decodes bytes to a buffer. U+FFFD takes three bytes for one, and valid bytes take
+/// no more than their own number.
+fn decodes_to_slice(alloc: Global, flavor: Flavor, decoder: Decoder, bytes: &[u8]) -> bool {
+    let times = if decoder.is_lossy() { 3 } else { 1 };
+    match ascii(alloc, bytes.len().saturating_mul(times)) {
+        Ok(mut buf) => SliceCall::Decode(decoder, bytes)
+            .write(flavor, &mut buf)
+            .is_ok(),
+        Err(_) => false,
+    }
+}
+
+/// Makes each call that decodes bytes. If they are damaged, it makes only the lossy ones. Returns
+/// the name of the first one that gives up.
+fn decode_all(
     alloc: Global,
     flavor: Flavor,
-    decoder: Decoder,
     bytes: &[u8],
-) -> Result<(), &'static str> {
-    let text = decoder.call(alloc, flavor, bytes).or(Err(decoder.name()))?;
-    text.into_string(alloc).or(Err("into_string"))?;
-    Ok(())
+    is_damaged: bool,
+) -> Option<&'static str> {
+    for decoder in DECODERS {
+        let is_tried = decoder.is_lossy() || !is_damaged;
+        if is_tried && !decodes(alloc, flavor, decoder, bytes) {
+            return Some(decoder.name());
+        }
+        if is_tried && !decodes_to_slice(alloc, flavor, decoder, bytes) {
+            return Some("one of the same name, to a slice");
+        }
+    }
+    if is_damaged || decodes_front(alloc, flavor, bytes) {
+        None
+    } else {
+        Some("decode_strict_front")
+    }
 }
 
-/// Makes each call that decodes bytes strictly.
-fn decode_all(alloc: Global, flavor: Flavor, bytes: &[u8]) -> Result<(), &'static str> {
-    decode_by(alloc, flavor, Decoder::Strict, bytes)?;
-    decode_by(alloc, flavor, Decoder::Lenient, bytes)?;
-    let len = bytes.len();
-    let front = decode_strict_front(alloc, flavor, bytes, len).or(Err("decode_strict_front"))?;
-    front.into_string(alloc).or(Err("into_string"))?;
-    let mut buf = ascii(alloc, len).or(Err("a buffer"))?;
-    let buf = buf.as_mut_slice();
-    decode_strict_to_slice(flavor, bytes, buf).or(Err("decode_strict_to_slice"))?;
-    decode_to_slice(flavor, bytes, buf).or(Err("decode_to_slice"))?;
-    Ok(())
+/// Whether a Java string is read by the call that returns its text.
+fn reads(alloc: Global, form: &[u8]) -> bool {
+    match read_utf(alloc, form) {
+        Ok((text, _)) => text.into_string(alloc).is_ok(),
+        Err(_) => false,
+    }
 }
 
-/// Makes each call that decodes bytes lossily.
-fn decode_all_lossily(alloc: Global, flavor: Flavor, bytes: &[u8]) -> Result<(), &'static str> {
-    decode_by(alloc, flavor, Decoder::LossyStrict, bytes)?;
-    decode_by(alloc, flavor, Decoder::LossyLenient, bytes)?;
-    // U+FFFD takes three bytes.
-    let mut buf = ascii(alloc, bytes.len().saturating_mul(3)).or(Err("a buffer"))?;
-    let buf = buf.as_mut_slice();
-    decode_lossy_strict_to_slice(flavor, bytes, buf).or(Err("decode_lossy_strict_to_slice"))?;
-    decode_lossy_to_slice(flavor, bytes, buf).or(Err("decode_lossy_to_slice"))?;
-    Ok(())
+/// Whether a damaged Java string is read by the call that returns its text.
+fn reads_lossily(alloc: Global, form: &[u8]) -> bool {
+    match read_utf_lossy(alloc, form) {
+        Ok((text, _)) => text.into_string(alloc).is_ok(),
+        Err(_) => false,
+    }
 }
 
-/// Makes each call that writes a Java string or reads one without damage.
-fn exchange(alloc: Global, text: &str) -> Result<(), &'static str> {
+/// Makes each call that writes a Java string, or reads one without damage. Returns the name of the
+/// first one that gives up.
+fn exchange(alloc: Global, text: &str) -> Option<&'static str> {
     let mut form = Vec::new(alloc);
-    write_utf(text, &mut form).or(Err("write_utf"))?;
-    let mut buf = ascii(alloc, form.len()).or(Err("a buffer"))?;
-    let buf = buf.as_mut_slice();
-    write_utf_to_slice(text, buf).or(Err("write_utf_to_slice"))?;
-    let (read, _) = read_utf(alloc, form.as_slice()).or(Err("read_utf"))?;
-    read.into_string(alloc).or(Err("into_string"))?;
-    read_utf_to_slice(form.as_slice(), buf).or(Err("read_utf_to_slice"))?;
-    Ok(())
+    if write_utf(text, &mut form).is_err() {
+        return Some("write_utf");
+    }
+    let Ok(mut buf) = ascii(alloc, form.len()) else {
+        return Some("a buffer");
+    };
+    if write_utf_to_slice(text, &mut buf).is_err() {
+        Some("write_utf_to_slice")
+    } else if !reads(alloc, &form) {
+        Some("read_utf")
+    } else if read_utf_to_slice(&form, &mut buf).is_err() {
+        Some("read_utf_to_slice")
+    } else {
+        None
+    }
+}
+
+/// These bytes of MUTF-8 as a Java string.
+fn form_of(alloc: Global, bytes: &[u8]) -> Result<Vec<u8>, AllocError> {
+    let count = u16::try_from(bytes.len()).unwrap_or(u16::MAX).to_be_bytes();
+    joined(alloc, &[&count, bytes])
 }
 
 /// Makes each call that reads a Java string lossily, of these bytes of MUTF-8.
-fn read_lossily(alloc: Global, bytes: &[u8]) -> Result<(), &'static str> {
-    let count = u16::try_from(bytes.len()).or(Err("more than two bytes count"))?;
-    let form = joined(alloc, &[&count.to_be_bytes(), bytes]).or(Err("joined"))?;
-    let (read, _) = read_utf_lossy(alloc, form.as_slice()).or(Err("read_utf_lossy"))?;
-    read.into_string(alloc).or(Err("into_string"))?;
-    let mut buf = ascii(alloc, bytes.len().saturating_mul(3)).or(Err("a buffer"))?;
-    let buf = buf.as_mut_slice();
-    read_utf_lossy_to_slice(form.as_slice(), buf).or(Err("read_utf_lossy_to_slice"))?;
-    Ok(())
+fn read_lossily(alloc: Global, bytes: &[u8]) -> Option<&'static str> {
+    let Ok(form) = form_of(alloc, bytes) else {
+        return Some("a form");
+    };
+    let Ok(mut buf) = ascii(alloc, bytes.len().saturating_mul(3)) else {
+        return Some("a buffer");
+    };
+    if !reads_lossily(alloc, &form) {
+        Some("read_utf_lossy")
+    } else if read_utf_lossy_to_slice(&form, &mut buf).is_err() {
+        Some("read_utf_lossy_to_slice")
+    } else {
+        None
+    }
 }
 
-/// The ends of texts in UTF-8: of one that is the same in both encodings, and of one that is not.
-const TEXT_ENDS: [&[u8]; 2] = [b"", b"\xF0\x9F\x92\x96"];
+/// The end of texts in UTF-8 that are not the same in both encodings.
+const TEXT_END: &[u8] = b"\xF0\x9F\x92\x96";
 
-/// The ends of encodings of these texts.
-const ENCODING_ENDS: [&[u8]; 2] = [b"", b"\xED\xA0\xBD\xED\xB2\x96"];
+/// The end of the encodings of these texts.
+const ENCODING_END: &[u8] = b"\xED\xA0\xBD\xED\xB2\x96";
 
-/// Asserts that no call gives up on inputs of so many bytes.
-fn assert_done(rt: &impl Abort, alloc: Global, flavor: Flavor, len: usize) -> Result<(), Fail> {
-    for end in TEXT_ENDS {
-        let utf8 = ending_with(alloc, len, end)?;
-        let text = str::from_utf8(utf8.as_slice())?;
-        assert_eq!(rt;
-            encode_all(alloc, flavor, text),
-            Ok(()),
-            "{len} bytes, {flavor:?}"
-        );
+/// The end of damaged encodings.
+const DAMAGED_END: &[u8] = b"\xFF";
+
+/// Makes each call that encodes, with a text of so many bytes and this end. Returns the name of the
+/// first one that gives up.
+fn encode_ending(alloc: Global, flavor: Flavor, len: usize, end: &[u8]) -> Option<&'static str> {
+    match ending_with(alloc, len, end) {
+        Ok(utf8) => match str::from_utf8(&utf8) {
+            Ok(text) => encode_all(alloc, flavor, text),
+            Err(_) => Some("an input"),
+        },
+        Err(_) => Some("an input"),
     }
-    for end in ENCODING_ENDS {
-        let bytes = ending_with(alloc, len, end)?;
-        let decoded = decode_all(alloc, flavor, bytes.as_slice());
-        assert_eq!(rt; decoded, Ok(()), "{len} bytes, {flavor:?}");
-    }
-    for end in [b"".as_slice(), b"\xED\xA0\xBD\xED\xB2\x96", b"\xFF"] {
-        let bytes = ending_with(alloc, len, end)?;
-        let decoded = decode_all_lossily(alloc, flavor, bytes.as_slice());
-        assert_eq!(rt; decoded, Ok(()), "{len} bytes, {flavor:?}");
-    }
-    Ok(())
 }
 
-/// Asserts that no call of `java_text` gives up on strings of so many bytes.
-fn assert_exchanged(rt: &impl Abort, alloc: Global, len: usize) -> Result<(), Fail> {
-    for end in TEXT_ENDS {
-        let utf8 = ending_with(alloc, len, end)?;
-        let text = str::from_utf8(utf8.as_slice())?;
-        assert_eq!(rt; exchange(alloc, text), Ok(()), "{len} bytes");
+/// Makes each call that decodes, with so many bytes and this end.
+fn decode_ending(alloc: Global, flavor: Flavor, len: usize, end: &[u8]) -> Option<&'static str> {
+    match ending_with(alloc, len, end) {
+        Ok(bytes) => decode_all(alloc, flavor, &bytes, end == DAMAGED_END),
+        Err(_) => Some("an input"),
     }
-    let bytes = ending_with(alloc, len, b"\xFF")?;
-    assert_eq!(rt;
-        read_lossily(alloc, bytes.as_slice()),
-        Ok(()),
-        "{len} bytes"
-    );
-    Ok(())
 }
 
-#[test]
-fn no_call_gives_up_on_few_bytes(rt: HostRuntime) -> Result<(), Fail> {
-    for len in 0..=300 {
+/// Makes each call that writes or reads a Java string, with a text of so many bytes and this end.
+fn exchange_ending(alloc: Global, len: usize, end: &[u8]) -> Option<&'static str> {
+    match ending_with(alloc, len, end) {
+        Ok(utf8) => match str::from_utf8(&utf8) {
+            Ok(text) => exchange(alloc, text),
+            Err(_) => Some("an input"),
+        },
+        Err(_) => Some("an input"),
+    }
+}
+
+/// Makes each call that reads a Java string lossily, with so many bytes, the last one damaged.
+fn read_ending(alloc: Global, len: usize) -> Option<&'static str> {
+    match ending_with(alloc, len, DAMAGED_END) {
+        Ok(bytes) => read_lossily(alloc, &bytes),
+        Err(_) => Some("an input"),
+    }
+}
+
+/// The first call that gives up on inputs of so many bytes.
+fn first_of_codec(alloc: Global, flavor: Flavor, len: usize) -> Option<&'static str> {
+    encode_ending(alloc, flavor, len, b"")
+        .or(encode_ending(alloc, flavor, len, TEXT_END))
+        .or(decode_ending(alloc, flavor, len, b""))
+        .or(decode_ending(alloc, flavor, len, ENCODING_END))
+        .or(decode_ending(alloc, flavor, len, DAMAGED_END))
+}
+
+/// The first call of `java_text` that gives up on strings of so many bytes. They have no more than
+/// 65,535 bytes of MUTF-8.
+fn first_of_java(alloc: Global, len: usize) -> Option<&'static str> {
+    if len > 65_535 {
+        return None;
+    }
+    exchange_ending(alloc, len, b"")
+        .or(exchange_ending(alloc, len, TEXT_END))
+        .or(read_ending(alloc, len))
+}
+
+/// Asserts that no call gives up on inputs of these lengths.
+fn assert_done(rt: &impl Abort, alloc: Global, lengths: RangeInclusive<usize>) {
+    for len in lengths {
         for flavor in FLAVORS {
-            assert_done(&rt, rt.alloc(), flavor, len)?;
+            let first = first_of_codec(alloc, flavor, len);
+            assert_of(rt, first.is_none(), &(len, flavor, first));
         }
-        assert_exchanged(&rt, rt.alloc(), len)?;
+        let first = first_of_java(alloc, len);
+        assert_of(rt, first.is_none(), &(len, first));
     }
-    Ok(())
-}
-
-/// Up to 4,096 damaged bytes are decoded before memory is requested.
-#[test]
-fn no_call_gives_up_about_4096_bytes(rt: HostRuntime) -> Result<(), Fail> {
-    for len in 4_090..=4_110 {
-        for flavor in FLAVORS {
-            assert_done(&rt, rt.alloc(), flavor, len)?;
-        }
-        assert_exchanged(&rt, rt.alloc(), len)?;
-    }
-    Ok(())
 }
 
 #[test]
-fn no_call_gives_up_on_many_bytes(rt: HostRuntime) -> Result<(), Fail> {
-    for len in [5_000, 8_192, 100_001] {
-        for flavor in FLAVORS {
-            assert_done(&rt, rt.alloc(), flavor, len)?;
-        }
-        // A Java string has no more than 65,535 bytes of MUTF-8.
-        if len <= 65_535 {
-            assert_exchanged(&rt, rt.alloc(), len)?;
-        }
-    }
-    Ok(())
+fn no_call_gives_up_on_few_bytes(rt: HostRuntime) {
+    assert_done(&rt, rt.alloc(), 0..=300);
+}
+
+/// Up to 4,096 damaged bytes are decoded before memory is allocated.
+#[test]
+fn no_call_gives_up_about_4096_bytes(rt: HostRuntime) {
+    assert_done(&rt, rt.alloc(), 4_090..=4_110);
 }
 
 #[test]
-fn no_call_gives_up_on_a_million_bytes(rt: HostRuntime) -> Result<(), Fail> {
-    for flavor in FLAVORS {
-        assert_done(&rt, rt.alloc(), flavor, 1_000_003)?;
-    }
-    Ok(())
+fn no_call_gives_up_on_many_bytes(rt: HostRuntime) {
+    assert_done(&rt, rt.alloc(), 5_000..=5_000);
+    assert_done(&rt, rt.alloc(), 8_192..=8_192);
+    assert_done(&rt, rt.alloc(), 100_001..=100_001);
+}
+
+#[test]
+fn no_call_gives_up_on_a_million_bytes(rt: HostRuntime) {
+    assert_done(&rt, rt.alloc(), 1_000_003..=1_000_003);
 }

@@ -1,6 +1,6 @@
-//! What looks on while a stream is converted.
+//! What observes the bytes that a conversion takes.
 
-/// Is told of all bytes that a conversion takes, in their order.
+/// Gets all bytes that a conversion takes, in their order.
 pub trait Watch {
     /// These bytes were taken. Of them the last one was replaced, if `replaced` is 1.
     fn taken(&mut self, bytes: &[u8], replaced: usize);

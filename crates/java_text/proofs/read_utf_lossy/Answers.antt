@@ -1,7 +1,7 @@
--- `split_counted` splits off the counted bytes, and `decode_lossy_strict` promises each clause for
--- them. One search finds this, and fails once if an edit makes some of the clauses false.
+-- The prover finds this goal by itself. The search given here fails sooner if an edit of must-fail
+-- makes the goal false.
 use Rattle.std.proofs.Common.{rules}
 use Rattle.java_text.proofs.read_utf_lossy.Goals as goal
 
-pub returns : goal.returns
-returns c = search rules
+pub returns-clause-reading : goal.returns-clause-reading
+returns-clause-reading c = search rules
