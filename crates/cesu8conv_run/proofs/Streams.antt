@@ -1,6 +1,6 @@
 -- The conversion of a whole stream, a piece after the other. `r0`, `r1` and `r2` are what the
--- reader has left, and `w0`, `w1` and `w2` what the writer holds, at one point after another: `None`
--- if that is not known.
+-- reader has left, and `w0`, `w1` and `w2` what the writer holds, at one point after another. They
+-- are `None` if that is not known.
 use Rattle.std.proofs.Common.{◌≡◌, ℕ, ◌+◌, ◌-◌, ◌≤◌, Bool, true, false, List, [], ◌++◌, length, take, drop, refl, sym, ap, ◌∙◌, append_assoc, arith, length-drop, length-append, Some, None}
 use Rattle.std.specs.Prelude.{Option, IfSome}
 use Rattle.std.specs.List.{copy_within}
