@@ -121,8 +121,8 @@ window-read window tail post unread count fits within =
     filled-up window (take unread window ++ (tail ++ post)) (tail ++ post) unread count fits refl
     ∙ ap (λ y. take unread window ++ y) (take-append-le count tail post within)
 
--- After a read, the piece in the window is what was unread and what was read. All that the reader gave
--- is what was taken and the piece.
+-- After a read, the piece in the window is what was unread and what was read. All that the reader
+-- gave is what was taken and the piece.
 pub record IsRead (c : Conversion) (is_last : Bool) (r0 r1 : Option (List ℕ)) (taken piece output : List ℕ) : Type 0 where
   pub ends : is_last ≡ true → IsAtEnd r1
   pub consumed : Consumes r0 r1 (taken ++ piece)
