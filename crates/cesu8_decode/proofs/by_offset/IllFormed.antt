@@ -217,8 +217,8 @@ module _ (f : Flavor) (window bytes : List ℕ) (follows : Follows window bytes 
       (λ (far : p + 6 ≤ i). omega (arith, width_bounds f window (p + 5)))
       (cases_lt i (p + 6))
 
-  -- If no byte before an offset is ill-formed, and no character crosses the offset, the bytes before
-  -- it are the encoding of their lossy reading.
+  -- If no byte before an offset is ill-formed, and no character crosses the offset, the bytes
+  -- before it are the encoding of their lossy reading.
   pub read_before : (n : ℕ) → n ≤ length bytes → NoneCrosses f (take n bytes) (drop n bytes) →
       ((i : ℕ) → i < n → is_ill_formed_at f window i ≡ false) → IsStrictReading f (take n bytes) (reading f (take n bytes))
   read_before n fits crosses fine =
