@@ -148,6 +148,7 @@ compile() {
         chmod 755 "$program"
 }
 
+# Whether programs in C, C++ or Rust can be built. If not, WHAT is skipped: `can_build_c WHAT`.
 can_build_c() {
     printf '#include <stdio.h>\nint main(void) { return puts("") < 0; }\n' >"$scratch/probe.c"
     can_build "$1" "$c_compiler" -o "$scratch/probe" "$scratch/probe.c"

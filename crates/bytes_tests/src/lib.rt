@@ -1,5 +1,5 @@
-//! Tests of what `cesu8_bytes` does beside its contracts. They stand in a crate of their own, since a
-//! crate with tests is proved twice.
+//! Tests of what `cesu8_bytes` does beside its contracts. They stand in a crate of their own, since
+//! a crate with tests is proved twice.
 #![tactic(auto)]
 
 #[cfg(test)]

@@ -39,7 +39,8 @@
 //! | `AnyChange`     | 512 bytes or more: a pair in 20 to 50 bytes, or characters of all widths |
 //! | `CopyUnchanged` | a pair in 300 bytes or more                                              |
 //!
-//! Other thresholds are in `cesu8_bytes`: the widths of vectors, and the fast paths of `fast_paths`.
+//! Other thresholds are in `cesu8_bytes`: the widths of vectors, and the fast paths of
+//! `fast_paths`.
 
 ghost use Rattle.std.specs.Prelude.{◌≤◌, ◌↔◌, length, IsTrue};
 ghost use Rattle.cesu8_encode.specs.Strategies.{FitsMiddle};

@@ -47,8 +47,8 @@ fn encode_block_to_slice<F: Flavor>(text: &str, buf: &mut [u8]) -> Result<usize,
     copy_to_slice(&written[..len], buf)
 }
 
-/// Counts the length of the encoding, and encodes in place. It is not inlined, so that a string that
-/// does not change uses no stack.
+/// Counts the length of the encoding, and encodes in place. It is not inlined, so that a string
+/// that does not change uses no stack.
 #[inline(never)]
 #[tactic(auto, using(crate::proofs::encoder::EncodedLengths::no_shorter))]
 fn encode_in_place<F: Flavor>(text: &str, buf: &mut [u8]) -> Result<usize, NoRoom>

@@ -240,7 +240,8 @@ pub same_length : (w : ℕ) (buf new old : List ℕ) → length new ≡ length (
     length (take w buf ++ new) ≡ length old
 same_length w buf new old long same = grind (arith, common_steps)
 
--- How far a turn of the loop came by a strict call on the rest: what was read, and what the call left.
+-- How far a turn of the loop came by a strict call on the rest: what was read, and what the call
+-- left.
 pub record IsFound (from reading : List ℕ → List ℕ) (is_last : Bool) (bytes old new : List ℕ) (n w : ℕ) (state : State) : Type 0 where
   pub within : n ≤ length bytes
   pub reads : ReadsOn reading is_last bytes n w old new

@@ -26,8 +26,8 @@ texts calls = flat_map (λ call. call.text) calls
 abbrev pub outputs : (List ℕ → List ℕ) → List Call → List ℕ
 outputs to calls = flat_map (λ call. to call.text) calls
 
--- Calls in a row that convert what is well-formed: the bytes that each one reads are its text. Before
--- them `kept` is left, and after them `rest`.
+-- Calls in a row that convert what is well-formed: the bytes that each one reads are its text.
+-- Before them `kept` is left, and after them `rest`.
 abbrev pub ConvertInTurn : (List ℕ → List ℕ) → List ℕ → List Call → List ℕ → Type 0
 ConvertInTurn from kept [] rest = kept ≡ rest
 ConvertInTurn from kept (call ∷ calls) rest =

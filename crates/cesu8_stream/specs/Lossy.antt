@@ -11,8 +11,8 @@ use Rattle.cesu8_stream.specs.declared.progress.State.TheVariants.{InputEmpty, I
 abbrev pub MayFollow : Bool → List ℕ → Type 0
 MayFollow is_last more = is_last ≡ true → more ≡ []
 
--- The UTF-8 of some text is at the front of the buffer, whose rest is unchanged. Whatever follows the
--- bytes, all of it is read as that text, and then as what is left is read.
+-- The UTF-8 of some text is at the front of the buffer, whose rest is unchanged. Whatever follows
+-- the bytes, all of it is read as that text, and then as what is left is read.
 abbrev pub ReadsOn : (List ℕ → List ℕ) → Bool → List ℕ → ℕ → ℕ → List ℕ → List ℕ → Type 0
 ReadsOn reading is_last bytes read written old new =
     (text : List ℕ) × IsText text × StandsAtFront (utf8 text) written old new
@@ -40,8 +40,8 @@ is_damage Incomplete is_last = is_last
 is_damage OutputFull is_last = false
 is_damage Malformed is_last = true
 
--- How far a call came that replaces what is ill-formed, and why it stopped. `from` writes the encoding
--- and `reading` is its lossy reading.
+-- How far a call came that replaces what is ill-formed, and why it stopped. `from` writes the
+-- encoding and `reading` is its lossy reading.
 pub record DecodesPiece (from reading : List ℕ → List ℕ) (is_last : Bool) (bytes : List ℕ) (result : Progress) (old new : List ℕ) : Type 0 where
   pub text : ReadsOn reading is_last bytes result.read result.written old new
   pub within : result.read ≤ length bytes

@@ -5,7 +5,8 @@ use Rattle.cesu8_stream.specs.declared.progress.Progress.{Progress}
 use Rattle.cesu8_stream.specs.declared.progress.State.{State}
 use Rattle.cesu8_stream.specs.declared.progress.State.TheVariants.{InputEmpty, Incomplete, OutputFull, Malformed}
 
--- Why nothing more of the rest was converted. If a character begins it, that character does not fit.
+-- Why nothing more of the rest was converted. If a character begins it, that character does not
+-- fit.
 pub record IsStateOf (from : List ℕ → List ℕ) (rest : List ℕ) (state : State) : Type 0 where
   pub input_empty : (state ≡ InputEmpty) ↔ (rest ≡ [])
   pub incomplete : (state ≡ Incomplete) ↔ IsPartial from rest
@@ -13,8 +14,8 @@ pub record IsStateOf (from : List ℕ → List ℕ) (rest : List ℕ) (state : S
   pub output_full : (state ≡ OutputFull) ↔ ((c : ℕ) × Begins from rest c)
   pub few_left : state ≡ Incomplete → length rest ≤ 5
 
--- How far a call came that converts what is well-formed, and why it stopped. A character has at most
--- `widest` bytes in the output.
+-- How far a call came that converts what is well-formed, and why it stopped. A character has at
+-- most `widest` bytes in the output.
 pub record ConvertsPiece (from to : List ℕ → List ℕ) (widest : ℕ) (bytes : List ℕ) (result : Progress) (old new : List ℕ) : Type 0 where
   -- The bytes that were read are a text, which was written.
   pub text : Converts from to bytes result.read result.written old new

@@ -1,4 +1,6 @@
--- The conversion of a whole stream, a piece after the other.
+-- The conversion of a whole stream, a piece after the other. `r0`, `r1` and `r2` are what the
+-- reader has left, and `w0`, `w1` and `w2` what the writer holds, at one point after another. They
+-- are `None` if that is not known.
 use Rattle.std.proofs.Common.{◌≡◌, ℕ, ◌+◌, ◌-◌, ◌≤◌, Bool, true, false, List, [], ◌++◌, length, take, drop, refl, sym, ap, ◌∙◌, append_assoc, arith, length-drop, length-append, Some, None}
 use Rattle.std.specs.Prelude.{Option, IfSome}
 use Rattle.std.specs.List.{copy_within}
@@ -56,6 +58,7 @@ pub converts-known : (c : Conversion) (is_last : Bool) (a ahead rest x : List �
 converts-known c true a ahead rest x ends h = rw (ends refl, append-nil ahead) h
 converts-known c false a ahead rest x ends h = converts-read c true a ahead rest x h
 
+-- After the last piece nothing follows, and after another one anything may.
 pub may-follow : (is_last : Bool) (rest : List ℕ) → (is_last ≡ true → rest ≡ []) → MayFollow is_last rest
 may-follow true rest ends = ends refl
 may-follow false rest ends = tt
@@ -80,7 +83,7 @@ writes-some c is_last (Some bytes) (Some more) w0 w1 taken ahead output rest end
   appended = appended;
 }
 
--- The same with nothing left to write.
+-- A run that stops between two pieces, with nothing left to write, also wrote such a beginning.
 pub writes-all-so-far : (c : Conversion) (r0 r1 w0 w1 : Option (List ℕ)) (taken ahead output : List ℕ) →
     Consumes r0 r1 (taken ++ ahead) → Converts c false taken ahead output → Appends w0 w1 output →
     IfSome r0 (λ bytes. WritesSome c bytes w0 w1)
@@ -106,6 +109,7 @@ pub consumes-more : (r0 r1 r2 : Option (List ℕ)) (taken unread got piece : Lis
 consumes-more r0 r1 r2 taken unread got piece is h k =
     rw (is, ← append_assoc taken unread got) (Consumes-trans r0 r1 r2 (taken ++ unread) got h k)
 
+-- What was converted before bytes that were unread is also converted before these and more.
 pub converts-more : (c : Conversion) (is_last : Bool) (taken unread got piece output : List ℕ) → piece ≡ unread ++ got →
     Converts c false taken unread output → Converts c is_last taken piece output
 converts-more c is_last taken unread got piece output is h = rw is (converts-read c is_last taken unread got output h)
@@ -117,8 +121,8 @@ window-read window tail post unread count fits within =
     filled-up window (take unread window ++ (tail ++ post)) (tail ++ post) unread count fits refl
     ∙ ap (λ y. take unread window ++ y) (take-append-le count tail post within)
 
--- After a read, the piece in the window is what was unread and what was read. All that the reader gave
--- is what was taken and the piece.
+-- After a read, the piece in the window is what was unread and what was read. All that the reader
+-- gave is what was taken and the piece.
 pub record IsRead (c : Conversion) (is_last : Bool) (r0 r1 : Option (List ℕ)) (taken piece output : List ℕ) : Type 0 where
   pub ends : is_last ≡ true → IsAtEnd r1
   pub consumed : Consumes r0 r1 (taken ++ piece)

@@ -16,7 +16,8 @@ abbrev pub flavor_of : FlavorWord → Flavor
 flavor_of words.Cesu8 = encodings.Cesu8
 flavor_of words.Mutf8 = encodings.Mutf8
 
--- A part of mixed input: a text in the encoding, a text in UTF-8, or a single byte that is replaced.
+-- A part of mixed input: a text in the encoding, a text in UTF-8, or a single byte that is
+-- replaced.
 pub data Part : Type 0 where
   Encoded : (text : List ℕ) → Part
   InUtf8 : (text : List ℕ) → Part

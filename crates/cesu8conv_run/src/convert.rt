@@ -77,7 +77,8 @@ pub fn convert<R: Read, W: Write, V: Watch>(
     Err(Fault::Size)
 }
 
-/// Converts a piece of the input as far as it goes, and writes that. Returns how many bytes it took.
+/// Converts a piece of the input as far as it goes, and writes that. Returns how many bytes it
+/// took.
 fn convert_piece<W: Write, V: Watch>(
     conversion: Conversion,
     bytes: &[u8],

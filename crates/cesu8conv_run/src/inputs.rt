@@ -164,8 +164,8 @@ fn name_at<'a>(names: &'a [&'a str], index: usize) -> &'a str {
     }
 }
 
-/// How many line ends the bytes have. All input is counted, so this tests 32 bytes at once. The sum is
-/// at most the length, and wraps nowhere.
+/// How many line ends the bytes have. All input is counted, so this tests 32 bytes at once. The sum
+/// is at most the length, and wraps nowhere.
 pub fn line_ends(bytes: &[u8]) -> usize {
     let (blocks, rest) = bytes.as_chunks::<32>();
     let mut count = 0usize;

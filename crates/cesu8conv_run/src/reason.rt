@@ -1,5 +1,5 @@
-//! What a message says of damage: the bytes, why they are damage, and which command or encoding they
-//! belong to.
+//! What a message says of damage: the bytes, why they are damage, and which command or encoding
+//! they belong to.
 
 use crate::conversion::{Conversion, FlavorWord};
 use simdutf8::compat;

@@ -1,7 +1,7 @@
 //! One step of a conversion: from the unread bytes of the input to a part of the output, both in
 //! memory. A step converts the whole characters at the start of the bytes, by `cesu8_stream`. Where
-//! that stops, the next step replaces the damaged byte or, for the mixed commands, passes a character
-//! of UTF-8 through.
+//! that stops, the next step replaces the damaged byte or, for the mixed commands, passes a
+//! character of UTF-8 through.
 
 ghost use Rattle.std.specs.Prelude.{◌≡◌, ◌≤◌, length, IsTrue, IsUtf8};
 ghost use Rattle.simd_cesu8.specs.Text.{utf8};
@@ -83,8 +83,8 @@ fn lossy_step(flavor: FlavorWord, bytes: &[u8], is_last: bool, room: &mut [u8]) 
     replace(decode_step(flavor, bytes, is_last, room), room)
 }
 
-/// Decodes up to the next byte that only UTF-8 has, or passes the character through that begins with
-/// it.
+/// Decodes up to the next byte that only UTF-8 has, or passes the character through that begins
+/// with it.
 fn mixed_step(flavor: FlavorWord, bytes: &[u8], is_last: bool, room: &mut [u8]) -> Step
     ensures { IsStep (Conversion.Mixed flavor) bytes.now is_last room.new result }
 {
@@ -175,7 +175,8 @@ fn after(front: Progress, is_last: bool) -> Step
     }
 }
 
-/// Goes on where a step stopped: first with what it converted, and then with U+FFFD for the byte there.
+/// Goes on where a step stopped: first with what it converted, and then with U+FFFD for the byte
+/// there.
 fn replace(step: Step, room: &mut [u8]) -> Step
     ensures { Replaces step room.old room.new result }
 {

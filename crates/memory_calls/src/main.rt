@@ -1,6 +1,6 @@
-//! Makes calls of `simd_cesu8`, `java_text` and `cesu8_stream`, so that `tests/memory.sh` can make each
-//! of their allocations fail in turn. It is a program of its own because only a whole process's
-//! allocations can be made to fail.
+//! Makes calls of `simd_cesu8`, `java_text` and `cesu8_stream`, so that `tests/memory.sh` can make
+//! each of their allocations fail in turn. It is a program of its own because only a whole
+//! process's allocations can be made to fail.
 //!
 //! Standard input is a line, and then the input of the calls. The line has a number of allocations
 //! to make first, and each call with its encoding. The program prints the result of each call, with

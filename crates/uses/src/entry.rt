@@ -36,7 +36,8 @@ impl Entry {
 
     /// Gives the entry this name.
     ///
-    /// If its MUTF-8 is longer than the field, the entry is unchanged, and `TooShort` has its length.
+    /// If its MUTF-8 is longer than the field, the entry is unchanged, and `TooShort` has its
+    /// length.
     ///
     /// ```rust
     /// let mut entry = uses::Entry::new(1);

@@ -60,8 +60,8 @@ fn strings(alloc: Global, random: &mut Random) -> Result<Pool, AllocError> {
     Ok(pool)
 }
 
-/// Appends `length` packed bytes, each as the character of that number. Most bytes are tags or small
-/// numbers.
+/// Appends `length` packed bytes, each as the character of that number. Most bytes are tags or
+/// small numbers.
 fn push_packed(random: &mut Random, length: u32, out: &mut String) -> Result<(), AllocError> {
     for _ in 0..length {
         let byte = match random.below(16) {

@@ -31,8 +31,8 @@ fn first_changed(is_mutf8: bool, bytes: &[u8]) -> usize {
         let word = u64::from_le_bytes([
             word[0], word[1], word[2], word[3], word[4], word[5], word[6], word[7],
         ]);
-        // `leads` is 0 if and only if no byte has its four highest bits set, and `nulls` if and only
-        // if no byte is 00.
+        // `leads` is 0 if and only if no byte has its four highest bits set, and `nulls` if and
+        // only if no byte is 00.
         let leads = word & word << 1 & word << 2 & word << 3 & HIGH;
         let nulls = if is_mutf8 { word.wrapping_sub(HIGH >> 7) & !word & HIGH } else { 0 };
         if leads | nulls != 0 {

@@ -9,7 +9,8 @@ use super::groups::InGroups;
 use super::search::{any_in_chunks, any_in_each};
 
 /// Returns whether some byte is in a class. Vectors of 64 bytes test as many whole chunks as there
-/// are, narrower vectors test the bytes that are left, and `fallback` tests a single byte at the end.
+/// are, narrower vectors test the bytes that are left, and `fallback` tests a single byte at the
+/// end.
 #[inline(always)]
 pub fn any_by_widths<C, F>(value: &[u8], fallback: F) -> bool
 where

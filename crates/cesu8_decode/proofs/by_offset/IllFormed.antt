@@ -15,7 +15,7 @@ use Rattle.cesu8_bytes.specs.declared.strictness.Strictness.TheVariants.{Strict}
 use Rattle.cesu8_text.proofs.encoding.Encodings.{encoding_nil, encoding_cons}
 use Rattle.cesu8_text.proofs.reading.EncodedTexts.{reading_text}
 use Rattle.cesu8_text.proofs.reading.Stretches.{later, earlier, none_crosses_character}
-use Rattle.cesu8_text.proofs.reading.Splits.{begins_front}
+use Rattle.cesu8_text.proofs.reading.Splits.{begins_in_prefix}
 use Rattle.cesu8_text.proofs.reading.Cuttings.{greedy_cutting}
 use Rattle.cesu8_text.proofs.reading.Greedy.{places}
 use Rattle.cesu8_decode.proofs.by_offset.FirstWidths.{wide}
@@ -158,7 +158,7 @@ covered_in_prefix f prefix back i crosses inside covered =
     let begins = subst (λ bs. BeginsWith f bs c covered.stands.0) (drop-append-le p prefix back (omega arith)) covered.stands.1 in record {
       offset = p;
       character = c;
-      stands = (drop (width f c) (drop p prefix), begins_front f (drop p prefix) back covered.stands.0 c begins (omega (arith, length-drop p prefix)));
+      stands = (drop (width f c) (drop p prefix), begins_in_prefix f (drop p prefix) back covered.stands.0 c begins (omega (arith, length-drop p prefix)));
       begun = begun;
       ends = covered.ends;
     }
@@ -217,8 +217,8 @@ module _ (f : Flavor) (window bytes : List ℕ) (follows : Follows window bytes 
       (λ (far : p + 6 ≤ i). omega (arith, width_bounds f window (p + 5)))
       (cases_lt i (p + 6))
 
-  -- If no byte before an offset is ill-formed, and no character crosses the offset, the bytes before
-  -- it are the encoding of their lossy reading.
+  -- If no byte before an offset is ill-formed, and no character crosses the offset, the bytes
+  -- before it are the encoding of their lossy reading.
   pub read_before : (n : ℕ) → n ≤ length bytes → NoneCrosses f (take n bytes) (drop n bytes) →
       ((i : ℕ) → i < n → is_ill_formed_at f window i ≡ false) → IsStrictReading f (take n bytes) (reading f (take n bytes))
   read_before n fits crosses fine =

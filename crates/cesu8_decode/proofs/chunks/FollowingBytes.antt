@@ -33,6 +33,7 @@ fits_three s f a b second other = grind (arith, nat_tests)
 pub short_of : (f : Flavor) (b : ℕ) → is_null f b ≡ false → short_form f b ≡ b ∷ []
 short_of f b no_null = grind arith
 
+-- Bytes that begin with C0 80 begin with U+0000, in MUTF-8.
 null_of : (f : Flavor) (a b : ℕ) (bytes : List ℕ) → a ≡ 0xC0 → null_at f 0xC0 b ≡ true → BeginsInLengths f (a ∷ b ∷ bytes) 2 1
 null_of Cesu8 a b bytes lead null = absurd (true≢false (sym null))
 null_of Mutf8 a b bytes lead null = found_null Mutf8 (a ∷ b ∷ bytes) refl (omega arith) lead (eqb-true b 0x80 null)
@@ -56,6 +57,7 @@ abbrev pub FollowToEnd : CharacterSet → Flavor → (a b d e : ℕ) → List �
 FollowToEnd s f a b d e [] = Ends s a b d e
 FollowToEnd s f a b d e (g ∷ bytes) = (follows s f a b d e g ≡ true) × FollowToEnd s f b d e g bytes
 
+-- One byte more at the front moves the offsets of `follows_at` and of `crosses_at` by one.
 follows_later : (s : CharacterSet) (f : Flavor) (a i : ℕ) (window : List ℕ) → follows_at s f (a ∷ window) (suc i) ≡ follows_at s f window i
 follows_later s f a i window = rw (suc-add i 1, suc-add i 2, suc-add i 3, suc-add i 4) refl
 

@@ -20,8 +20,8 @@ use cesu8_bytes::pairs::{PAIR, PAIR_READ, PAIR_UTF8, is_pair, utf8_of_pair};
 use cesu8_bytes::strictness::Reading;
 use cesu8_bytes::writing::offsets::put;
 
-// The lengths of buffers: for the longest text of so many bytes (`strategy`), and `ROOM` more, without
-// which the pass stops.
+// The lengths of buffers: for the longest text of so many bytes (`strategy`), and `ROOM` more,
+// without which the pass stops.
 pub const SMALL_STRICT: usize = SMALL_ARRAY + ROOM;
 
 pub const LARGE_STRICT: usize = LARGE_ARRAY + ROOM;

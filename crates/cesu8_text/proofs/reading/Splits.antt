@@ -23,7 +23,7 @@ joined_pieces [] q are_pieces others = others
 joined_pieces (piece ∷ p) q are_pieces others = (are_pieces.0, joined_pieces p q are_pieces.1 others)
 
 -- A character that begins the whole and ends in the first part begins the first part.
-begins_in_prefix : (f : Flavor) (front back rest : List ℕ) (c : ℕ) → BeginsWith f (front ++ back) c rest → width f c ≤ length front →
+pub begins_in_prefix : (f : Flavor) (front back rest : List ℕ) (c : ℕ) → BeginsWith f (front ++ back) c rest → width f c ≤ length front →
     BeginsWith f front c (drop (width f c) front)
 begins_in_prefix f front back rest c begins inside =
     grind (

@@ -1,5 +1,5 @@
--- The encoding changes a character if and only if it changes a byte of the UTF-8. Both searches find
--- such a byte (`needs_by_search`).
+-- The encoding changes a character if and only if it changes a byte of the UTF-8. Both searches
+-- find such a byte (`needs_by_search`).
 use Rattle.cesu8_bytes.proofs.lists.Ascii.{needs_by_search}
 use Rattle.cesu8_bytes.proofs.fast_paths.needs_encoded.Goals as goal
 

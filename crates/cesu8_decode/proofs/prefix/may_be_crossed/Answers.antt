@@ -1,5 +1,5 @@
--- `crosses_at` tests the same four bytes. The set without characters that need conversion has no
--- surrogate pairs, so the last two bytes decide alone.
+-- `crosses_at` tests the four bytes that the function loads. The set without characters that need
+-- conversion has no surrogate pairs, so the last two bytes decide alone.
 use Rattle.std.proofs.Common.{◌≡◌, ◌+◌, ◌∙◌, true, false, leb, get_or, refl, sym, ap, add-zero, arith, true≢false}
 use Rattle.std.proofs.lemmas.Bool.{lt-leb, not-true, not-false}
 use Rattle.cesu8_decode.specs.Following.{CharacterSet, Encoded, Unchanged, has_changed, is_high_surrogate, after_fillers}

@@ -1,5 +1,5 @@
--- The lossy reading of the bytes read so far is at the start of the buffer. Each iteration that goes
--- on replaces one byte.
+-- The lossy reading of the bytes read so far is at the start of the buffer. Each iteration that
+-- goes on replaces one byte.
 use Rattle.std.proofs.Common.{◌≤◌, ◌-◌, length}
 use Rattle.cesu8_stream.specs.Lossy.{ReadsOn}
 use Rattle.cesu8_stream.proofs.lossy.decode_lossy.Given as goal

@@ -1,5 +1,6 @@
--- The mixed conversion copies the characters of UTF-8 that the encoding writes otherwise, and decodes
--- everything else. Either is one step of it: a character that is copied, or a call that decodes.
+-- The mixed conversion copies the characters of UTF-8 that the encoding writes otherwise, and
+-- decodes everything else. Either is one step of it: a character that is copied, or a call that
+-- decodes.
 use Rattle.std.proofs.Common.{◌≡◌, ◌≤◌, ◌++◌, ◌∙◌, length, take, drop, ap, arith, length-append}
 use Rattle.std.proofs.lemmas.List.{take_at, length-take-le}
 use Rattle.cesu8conv_run.proofs.Steps.{mixed-step-of-decoded, passed-step}

@@ -1,5 +1,5 @@
--- Four bytes are stored in either case. All four are the UTF-8 of a pair, and the first alone, 00, that
--- of C0 80.
+-- Four bytes are stored in either case. All four are the UTF-8 of a pair, and the first alone, 00,
+-- that of C0 80.
 use Rattle.std.proofs.Common.{rules, ◌≡◌, ℕ, ◌+◌, ◌<◌, [], ◌∷◌, length, get_or, ap, sym, ◌∙◌, subst, arith, w32}
 use Rattle.std.specs.Int.{to_le_bytes}
 use Rattle.std.proofs.lemmas.List.{take_rest}

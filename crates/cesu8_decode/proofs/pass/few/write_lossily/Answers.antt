@@ -1,5 +1,5 @@
--- The bytes with zeros after them are the source. The window of the bytes is also one of the source,
--- and its text is that of the bytes.
+-- The bytes with zeros after them are the source. The window of the bytes is also one of the
+-- source, and its text is that of the bytes.
 use Rattle.std.proofs.Common.{arith, sym}
 use Rattle.cesu8_bytes.specs.declared.strictness.Strictness.TheVariants.{Lossy}
 use Rattle.cesu8_decode.proofs.by_offset.CharacterBoundaries.{boundary_of_zeros}
