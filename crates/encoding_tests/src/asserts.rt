@@ -1,5 +1,6 @@
 //! What the test modules share.
 
+use std::fmt::Debug;
 use std::process::Abort;
 use std::str;
 use test_cases::borders::Border;
@@ -13,4 +14,9 @@ pub fn text_of(border: &Border) -> &'static str {
 /// Asserts that nothing differs, and otherwise shows what was tried.
 pub fn assert_same(rt: &impl Abort, compared: Result<(), Difference>, tried: &[&str]) {
     assert!(rt; compared.is_ok(), "{compared:?} of {tried:?}");
+}
+
+/// Asserts that a fact holds of a row or an input, and otherwise shows it.
+pub fn assert_of<T: Debug>(rt: &impl Abort, holds: bool, of: &T) {
+    assert!(rt; holds, "of {of:?}");
 }

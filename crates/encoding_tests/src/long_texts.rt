@@ -2,11 +2,12 @@
 //! and a hundred strings of the pattern's widths: characters of one, two, three and four bytes of
 //! UTF-8, then U+0000, then characters of two, three and four, repeated.
 
+use crate::asserts::{assert_of, assert_same};
 use std::alloc::{AllocError, Global};
 use std::ops::Range;
+use std::process::Abort;
 use std::str;
-use std::test::Fail;
-use test_cases::comparisons::{Difference, expect, expect_encoding, expect_outcome};
+use test_cases::comparisons::{expect_encoding, expect_outcome};
 use test_cases::decoders::{Decoder, Outcome};
 use test_cases::fills::{Input, repeated};
 use test_cases::flavors::{FLAVORS, Flavor, decoded_len, encode, encoded_len, lossy_len};
@@ -29,100 +30,94 @@ fn among_ascii(alloc: Global, len: usize, put: &[u8], place: usize) -> Result<Ve
     input.inserted(alloc)
 }
 
-/// Compares the encodings of ASCII of length `len`, with a character inserted at each offset.
-fn expect_changed(
+/// Asserts the encoding of ASCII of length `len`, with a character and its encoding inserted at one
+/// offset.
+fn assert_at(
+    rt: &impl Abort,
     alloc: Global,
     flavor: Flavor,
-    character: &str,
-    len: usize,
-) -> Result<(), Difference> {
-    let changed = encoded(alloc, flavor, character)?;
-    for place in 0..=len {
-        let utf8 = among_ascii(alloc, len, character.as_bytes(), place)?;
-        let bytes = among_ascii(alloc, len, changed.as_slice(), place)?;
-        let text = str::from_utf8(utf8.as_slice()).unwrap_or("");
-        expect_encoding(alloc, flavor, text, bytes.as_slice())?;
+    [character, changed]: [&[u8]; 2],
+    (len, place): (usize, usize),
+) {
+    let utf8 = among_ascii(alloc, len, character, place).expect(rt, "a text");
+    let bytes = among_ascii(alloc, len, changed, place).expect(rt, "its encoding");
+    let text = str::from_utf8(&utf8).unwrap_or("");
+    assert_same(rt, expect_encoding(alloc, flavor, text, &bytes), &[text]);
+}
+
+/// Asserts the encodings of ASCII, with a character inserted at each offset.
+fn assert_changed(rt: &impl Abort, alloc: Global, flavor: Flavor, character: &str) {
+    let changed = encoded(alloc, flavor, character).expect(rt, "the encoding");
+    let both = [character.as_bytes(), changed.as_slice()];
+    for len in 0..101usize {
+        for place in 0..len.wrapping_add(1) {
+            assert_at(rt, alloc, flavor, both, (len, place));
+        }
     }
-    Ok(())
 }
 
 /// U+0000 and characters of four bytes.
 #[test]
-fn encodes_a_changed_byte_at_every_place(rt: HostRuntime) -> Result<(), Fail> {
+fn encodes_a_changed_byte_at_every_place(rt: HostRuntime) {
     for flavor in FLAVORS {
-        for character in ["\0", "\u{10000}", "\u{1F496}", "\u{10FFFF}"] {
-            for len in 0..=100 {
-                expect_changed(rt.alloc(), flavor, character, len)?;
-            }
-        }
+        assert_changed(&rt, rt.alloc(), flavor, "\0");
+        assert_changed(&rt, rt.alloc(), flavor, "\u{10000}");
+        assert_changed(&rt, rt.alloc(), flavor, "\u{1F496}");
+        assert_changed(&rt, rt.alloc(), flavor, "\u{10FFFF}");
     }
-    Ok(())
 }
 
-/// Compares the encoding of a long string, and what the encoding is decoded to.
-fn expect_both_ways(
-    alloc: Global,
-    flavor: Flavor,
-    text: &str,
-    bytes: &[u8],
-) -> Result<(), Difference> {
-    expect(
-        alloc,
-        flavor,
-        "encoded_len",
-        encoded_len(flavor, text),
-        bytes.len(),
-    )?;
-    expect(
-        alloc,
-        flavor,
-        "lossy_len",
-        lossy_len(flavor, bytes),
-        Some(text.len()),
-    )?;
-    expect(
-        alloc,
-        flavor,
-        "decoded_len",
-        decoded_len(flavor, bytes),
-        Some(text.len()),
-    )?;
-    let encoding = encode(alloc, flavor, text)?;
-    expect(alloc, flavor, "encode", encoding.as_bytes(), bytes)?;
-    for decoder in [Decoder::Strict, Decoder::Lenient] {
-        expect_outcome(alloc, decoder, flavor, bytes, Outcome::Owned(text))?;
+/// Whether the call returns a string's encoding.
+fn is_encoded(alloc: Global, flavor: Flavor, text: &str, bytes: &[u8]) -> bool {
+    match encode(alloc, flavor, text) {
+        Ok(encoding) => encoding.as_bytes() == bytes,
+        Err(_) => false,
     }
-    Ok(())
+}
+
+/// Asserts the encoding of a long string, and what the encoding is decoded to.
+fn assert_both_ways(rt: &impl Abort, alloc: Global, flavor: Flavor, text: &str, bytes: &[u8]) {
+    let lengths = (
+        encoded_len(flavor, text) == bytes.len(),
+        lossy_len(flavor, bytes) == Some(text.len()),
+        decoded_len(flavor, bytes) == Some(text.len()),
+    );
+    assert_of(rt, lengths == (true, true, true), &(lengths, flavor));
+    assert_of(rt, is_encoded(alloc, flavor, text, bytes), &flavor);
+    for decoder in [Decoder::Strict, Decoder::Lenient] {
+        let compared = expect_outcome(alloc, decoder, flavor, bytes, Outcome::Owned(text));
+        assert_same(rt, compared, &[text]);
+    }
 }
 
 /// Encodes and decodes the pattern, repeated `times` times. The lengths are those in UTF-8 and in
 /// the encoding.
-fn expect_pattern(
+fn assert_pattern(
+    rt: &impl Abort,
     alloc: Global,
     flavor: Flavor,
     times: usize,
-    lengths: [usize; 2],
-) -> Result<(), Difference> {
-    let utf8 = repeated(alloc, PATTERN, times)?;
-    let bytes = repeated(alloc, encoded_pattern(flavor), times)?;
-    expect(
+    lengths: (usize, usize),
+) {
+    let utf8 = repeated(alloc, PATTERN, times).expect(rt, "the pattern");
+    let bytes = repeated(alloc, encoded_pattern(flavor), times).expect(rt, "its encoding");
+    let measured = (utf8.len(), bytes.len());
+    assert_of(rt, measured == lengths, &measured);
+    assert_both_ways(
+        rt,
         alloc,
         flavor,
-        "the lengths",
-        [utf8.len(), bytes.len()],
-        lengths,
-    )?;
-    let text = str::from_utf8(utf8.as_slice()).unwrap_or("");
-    expect_both_ways(alloc, flavor, text, bytes.as_slice())
+        str::from_utf8(&utf8).unwrap_or(""),
+        &bytes,
+    );
 }
 
 #[test]
-fn encodes_and_decodes_the_pattern(rt: HostRuntime) -> Result<(), Fail> {
-    expect_pattern(rt.alloc(), Flavor::Cesu8, 1, [20, 24])?;
-    expect_pattern(rt.alloc(), Flavor::Cesu8, 819, [16_380, 19_656])?;
-    expect_pattern(rt.alloc(), Flavor::Mutf8, 1, [20, 25])?;
-    expect_pattern(rt.alloc(), Flavor::Mutf8, 819, [16_380, 20_475])?;
-    Ok(())
+fn encodes_and_decodes_the_pattern(rt: HostRuntime) {
+    assert_pattern(&rt, rt.alloc(), Flavor::Cesu8, 1, (20, 24));
+    assert_pattern(&rt, rt.alloc(), Flavor::Cesu8, 819, (16_380, 19_656));
+    assert_pattern(&rt, rt.alloc(), Flavor::Mutf8, 1, (20, 25));
+    assert_pattern(&rt, rt.alloc(), Flavor::Mutf8, 819, (16_380, 20_475));
 }
 
 // The characters of each width, taken in turn. The lists' lengths have no divisor in common with
@@ -170,52 +165,56 @@ fn scalar_at(number: u32) -> u32 {
     }
 }
 
-/// A string and its encoding.
-fn text_and_bytes(
-    alloc: Global,
-    flavor: Flavor,
-    number: u32,
-) -> Result<(String, Vec<u8>), AllocError> {
+/// The string with this number.
+fn text_at(alloc: Global, number: u32) -> Result<String, AllocError> {
     let mut text = String::new(alloc);
     let start = number.wrapping_mul(CHARACTERS);
     for place in 0..CHARACTERS {
         let scalar = scalar_at(start.wrapping_add(place));
         text.push(char::from_u32(scalar).unwrap_or('\0'))?;
     }
-    let bytes = encoded(alloc, flavor, text.as_str())?;
-    Ok((text, bytes))
+    Ok(text)
+}
+
+/// Encodes and decodes a string. The lengths are those in UTF-8 and in the encoding.
+fn assert_text(
+    rt: &impl Abort,
+    alloc: Global,
+    flavor: Flavor,
+    text: &str,
+    lengths: (usize, usize),
+) {
+    let bytes = encoded(alloc, flavor, text).expect(rt, "the encoding");
+    let measured = (text.len(), bytes.len());
+    assert_of(rt, measured == lengths, &measured);
+    assert_both_ways(rt, alloc, flavor, text, &bytes);
 }
 
 /// Encodes and decodes the strings with these numbers.
-fn expect_texts(alloc: Global, numbers: Range<u32>) -> Result<(), Difference> {
+fn assert_texts(rt: &impl Abort, alloc: Global, numbers: Range<u32>) {
     for number in numbers {
-        for flavor in FLAVORS {
-            let (text, bytes) = text_and_bytes(alloc, flavor, number)?;
-            expect(alloc, flavor, "the text", text.len(), 16_380)?;
-            let len = flavor.of([19_656, 20_475]);
-            expect(alloc, flavor, "the encoding", bytes.len(), len)?;
-            expect_both_ways(alloc, flavor, text.as_str(), bytes.as_slice())?;
-        }
+        let text = text_at(alloc, number).expect(rt, "a text");
+        assert_text(rt, alloc, Flavor::Cesu8, &text, (16_380, 19_656));
+        assert_text(rt, alloc, Flavor::Mutf8, &text, (16_380, 20_475));
     }
-    Ok(())
 }
 
 #[test]
-fn encodes_and_decodes_texts_0_to_25(rt: HostRuntime) -> Result<(), Fail> {
-    Ok(expect_texts(rt.alloc(), 0..25)?)
+fn encodes_and_decodes_texts_0_to_25(rt: HostRuntime) {
+    assert_texts(&rt, rt.alloc(), 0..25);
 }
 
 #[test]
-fn encodes_and_decodes_texts_25_to_50(rt: HostRuntime) -> Result<(), Fail> {
-    Ok(expect_texts(rt.alloc(), 25..50)?)
+fn encodes_and_decodes_texts_25_to_50(rt: HostRuntime) {
+    assert_texts(&rt, rt.alloc(), 25..50);
 }
 
 #[test]
-fn encodes_and_decodes_texts_50_to_75(rt: HostRuntime) -> Result<(), Fail> {
-    Ok(expect_texts(rt.alloc(), 50..75)?)
+fn encodes_and_decodes_texts_50_to_75(rt: HostRuntime) {
+    assert_texts(&rt, rt.alloc(), 50..75);
 }
 
 #[test]
-fn encodes_and_decodes_texts_75_to_100(rt: HostRuntime) -> Result<(), Fail> {
-    Ok(expect_texts(rt.alloc(), 75..100)?)
+fn encodes_and_decodes_texts_75_to_100(rt: HostRuntime) {
+    assert_texts(&rt, rt.alloc(), 75..100);
 }

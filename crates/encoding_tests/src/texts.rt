@@ -1,12 +1,12 @@
 //! Short strings, with each call that encodes or appends.
 
-use crate::asserts::{assert_same, text_of};
+use crate::asserts::{assert_of, assert_same, text_of};
 use std::alloc::Global;
+use std::process::Abort;
 use std::str;
-use std::test::Fail;
 use test_cases::borders::{BORDERS, Border};
-use test_cases::comparisons::{Difference, expect_appended, expect_encoding};
-use test_cases::flavors::{FLAVORS, Flavor, encode_into};
+use test_cases::comparisons::{expect_appended, expect_encoding};
+use test_cases::flavors::{Flavor, encode_into};
 use test_cases::plain::encoded;
 
 /// Strings, and their bytes in CESU-8 and in MUTF-8.
@@ -29,34 +29,32 @@ static TEXTS: [(&str, [&[u8]; 2]); 10] = [
     ),
 ];
 
-/// Compares what the calls build and append for a string, in both encodings.
-fn expect_text(alloc: Global, text: &str, both: [&[u8]; 2]) -> Result<(), Difference> {
-    for flavor in FLAVORS {
-        let bytes = flavor.of(both);
-        expect_encoding(alloc, flavor, text, bytes)?;
-        expect_appended(alloc, flavor, b"\x01\x02", text, bytes)?;
-    }
-    Ok(())
+/// Asserts what the calls build and append for a string, in one encoding.
+fn assert_text(rt: &impl Abort, alloc: Global, flavor: Flavor, text: &str, bytes: &[u8]) {
+    assert_same(rt, expect_encoding(alloc, flavor, text, bytes), &[text]);
+    let appended = expect_appended(alloc, flavor, b"\x01\x02", text, bytes);
+    assert_same(rt, appended, &[text]);
 }
 
 #[test]
 fn encodes_texts(rt: HostRuntime) {
-    for (text, both) in &TEXTS {
-        assert_same(&rt, expect_text(rt.alloc(), text, *both), &[text]);
+    for (text, [cesu8, mutf8]) in &TEXTS {
+        assert_text(&rt, rt.alloc(), Flavor::Cesu8, text, cesu8);
+        assert_text(&rt, rt.alloc(), Flavor::Mutf8, text, mutf8);
     }
 }
 
-/// Compares what the calls build for a scalar value, in both encodings.
-fn expect_border(alloc: Global, border: &Border) -> Result<(), Difference> {
-    let text = text_of(border);
-    expect_encoding(alloc, Flavor::Cesu8, text, border.encoded(Flavor::Cesu8))?;
-    expect_encoding(alloc, Flavor::Mutf8, text, border.encoded(Flavor::Mutf8))
+/// Asserts what the calls build for a scalar value, in one encoding.
+fn assert_border(rt: &impl Abort, alloc: Global, flavor: Flavor, border: &Border) {
+    let compared = expect_encoding(alloc, flavor, text_of(border), border.encoded(flavor));
+    assert_same(rt, compared, &[border.name]);
 }
 
 #[test]
 fn encodes_the_borders(rt: HostRuntime) {
     for row in &BORDERS {
-        assert_same(&rt, expect_border(rt.alloc(), row), &[row.name]);
+        assert_border(&rt, rt.alloc(), Flavor::Cesu8, row);
+        assert_border(&rt, rt.alloc(), Flavor::Mutf8, row);
     }
 }
 
@@ -69,54 +67,60 @@ static APPENDED: [(&str, &[u8]); 4] = [
 ];
 
 #[test]
-fn appends_to_a_cleared_buffer(rt: HostRuntime) -> Result<(), Fail> {
+fn appends_to_a_cleared_buffer(rt: HostRuntime) {
     let mut buf = Vec::new(rt.alloc());
     for (text, bytes) in &APPENDED {
-        encode_into(Flavor::Cesu8, text, &mut buf)?;
-        assert_eq!(rt; buf.as_slice(), *bytes);
+        let is_done = encode_into(Flavor::Cesu8, text, &mut buf).is_ok();
+        assert_of(&rt, is_done && buf.as_slice() == *bytes, text);
         buf.clear();
     }
-    Ok(())
+}
+
+/// Appends a text to a buffer. Returns 1 if the capacity changed, and `None` if memory runs out.
+fn requests(buf: &mut Vec<u8>) -> Option<u32> {
+    let before = buf.capacity();
+    encode_into(Flavor::Mutf8, "a\u{1F496}", buf).ok()?;
+    Some(u32::from(buf.capacity() != before))
 }
 
 /// Each allocation changes the capacity, so counting the changes counts the allocations. A thousand
 /// small ones would be slow.
 #[test]
-fn makes_few_requests(rt: HostRuntime) -> Result<(), Fail> {
+fn makes_few_requests(rt: HostRuntime) {
     let mut buf = Vec::new(rt.alloc());
-    let mut requests: u32 = 0;
+    let mut all: u32 = 0;
     for _call in 0..1_000 {
-        let before = buf.capacity();
-        encode_into(Flavor::Mutf8, "a\u{1F496}", &mut buf)?;
-        requests = requests.wrapping_add(u32::from(buf.capacity() != before));
+        all = all.saturating_add(requests(&mut buf).unwrap_or(21));
     }
-    assert_eq!(rt; buf.len(), 7_000);
-    assert!(rt; requests <= 20, "{requests} requests");
-    Ok(())
+    assert_of(&rt, buf.len() == 7_000 && all <= 20, &(buf.len(), all));
 }
 
-/// Compares the encodings of two bytes if they are UTF-8, and returns whether they are.
-fn expect_if_text(alloc: Global, pair: u16) -> Result<bool, Difference> {
-    let utf8 = pair.to_be_bytes();
-    let Ok(text) = str::from_utf8(&utf8) else {
-        return Ok(false);
-    };
-    for flavor in FLAVORS {
-        let bytes = encoded(alloc, flavor, text)?;
-        expect_encoding(alloc, flavor, text, bytes.as_slice())?;
+/// Asserts the encodings of a string of two bytes.
+fn assert_encoded(rt: &impl Abort, alloc: Global, flavor: Flavor, text: &str) {
+    let bytes = encoded(alloc, flavor, text).expect(rt, "the encoding");
+    assert_same(rt, expect_encoding(alloc, flavor, text, &bytes), &[text]);
+}
+
+/// Asserts the encodings of two bytes if they are UTF-8, and returns whether they are.
+fn assert_if_text(rt: &impl Abort, alloc: Global, pair: u16) -> bool {
+    match str::from_utf8(&pair.to_be_bytes()) {
+        Ok(text) => {
+            assert_encoded(rt, alloc, Flavor::Cesu8, text);
+            assert_encoded(rt, alloc, Flavor::Mutf8, text);
+            true
+        }
+        Err(_) => false,
     }
-    Ok(true)
 }
 
 /// All strings whose UTF-8 has two bytes: 128 times 128 pairs of ASCII, and 30 lead bytes with 64
 /// continuation bytes each.
 #[test]
-fn encodes_two_bytes(rt: HostRuntime) -> Result<(), Fail> {
+fn encodes_two_bytes(rt: HostRuntime) {
     let mut texts = 0u32;
     for pair in 0..=u16::MAX {
-        let is_text = expect_if_text(rt.alloc(), pair)?;
+        let is_text = assert_if_text(&rt, rt.alloc(), pair);
         texts = texts.wrapping_add(u32::from(is_text));
     }
-    assert_eq!(rt; texts, 18_304);
-    Ok(())
+    assert_of(&rt, texts == 18_304, &texts);
 }

@@ -1,19 +1,17 @@
 //! The number of UTF-16 code units of a string.
 
-use crate::asserts::text_of;
-use std::alloc::{AllocError, Global};
+use crate::asserts::{assert_of, text_of};
+use std::alloc::Global;
 use std::process::Abort;
 use std::str;
-use std::test::Fail;
 use test_cases::borders::BORDERS;
-use test_cases::comparisons::{Difference, expect};
 use test_cases::fills::{Input, repeated};
-use test_cases::flavors::Flavor;
 use test_cases::pattern::PATTERN;
 
 /// Asserts the number of code units that are counted in a string.
 fn assert_counted(rt: &impl Abort, text: &str, units: usize) {
-    assert_eq!(rt; simd_cesu8::utf16_len(text), units, "in {text:?}");
+    let counted = simd_cesu8::utf16_len(text);
+    assert_of(rt, counted == units, &(counted, units, text));
 }
 
 #[test]
@@ -37,72 +35,58 @@ fn counts_the_borders(rt: HostRuntime) {
     }
 }
 
-/// Compares the number of code units that are counted in a string, given as UTF-8.
-fn expect_units(alloc: Global, utf8: &[u8], units: usize) -> Result<(), Difference> {
-    let text = str::from_utf8(utf8).unwrap_or("");
-    let counted = simd_cesu8::utf16_len(text);
-    expect(alloc, Flavor::Cesu8, "utf16_len", counted, units)
+/// Asserts the number of code units that are counted in the pattern, repeated. It has eight
+/// characters, two of which are surrogate pairs.
+fn assert_pattern(rt: &impl Abort, alloc: Global, times: usize) {
+    let utf8 = repeated(alloc, PATTERN, times).expect(rt, "the pattern");
+    let text = str::from_utf8(&utf8).unwrap_or("");
+    assert_counted(rt, text, times.wrapping_mul(10));
 }
 
-/// The pattern has eight characters, two of which are surrogate pairs.
 #[test]
-fn counts_the_pattern(rt: HostRuntime) -> Result<(), Fail> {
-    let mut units = 0usize;
-    for times in 0..=220 {
-        let utf8 = repeated(rt.alloc(), PATTERN, times)?;
-        expect_units(rt.alloc(), utf8.as_slice(), units)?;
-        units = units.wrapping_add(10);
+fn counts_the_pattern(rt: HostRuntime) {
+    for times in 0..221usize {
+        assert_pattern(&rt, rt.alloc(), times);
     }
-    let utf8 = repeated(rt.alloc(), PATTERN, 819)?;
-    expect_units(rt.alloc(), utf8.as_slice(), 8_190)?;
-    Ok(())
+    assert_pattern(&rt, rt.alloc(), 819);
 }
 
-/// Compares what is counted in ASCII of length `len`, with a character inserted at each offset.
-fn expect_counted(
+/// Asserts what is counted in ASCII of length `len`, with a character inserted at one offset.
+fn assert_at(
+    rt: &impl Abort,
     alloc: Global,
-    character: &str,
-    units: usize,
+    (character, units): (&str, usize),
     len: usize,
-) -> Result<(), Difference> {
-    let units = len.wrapping_add(units);
-    for place in 0..=len {
-        let utf8 = among_letters(alloc, len, character, place)?;
-        expect_units(alloc, utf8.as_slice(), units)?;
-    }
-    Ok(())
-}
-
-/// ASCII of length `len`, with a character inserted at one offset.
-fn among_letters(
-    alloc: Global,
-    len: usize,
-    character: &str,
     place: usize,
-) -> Result<Vec<u8>, AllocError> {
+) {
     let input = Input {
         fill: b"a",
         len,
         put: character.as_bytes(),
         place,
     };
-    input.inserted(alloc)
+    let utf8 = input.inserted(alloc).expect(rt, "an input");
+    let text = str::from_utf8(&utf8).unwrap_or("");
+    assert_counted(rt, text, len.wrapping_add(units));
 }
 
+/// Characters, and the number of code units of each.
+static CHARACTERS: [(&str, usize); 6] = [
+    ("\0", 1),
+    ("\u{7FF}", 1),
+    ("\u{D7FF}", 1),
+    ("\u{FFFF}", 1),
+    ("\u{10000}", 2),
+    ("\u{10FFFF}", 2),
+];
+
 #[test]
-fn counts_a_character_at_every_place(rt: HostRuntime) -> Result<(), Fail> {
-    let characters = [
-        ("\0", 1),
-        ("\u{7FF}", 1),
-        ("\u{D7FF}", 1),
-        ("\u{FFFF}", 1),
-        ("\u{10000}", 2),
-        ("\u{10FFFF}", 2),
-    ];
-    for (character, units) in characters {
-        for len in 0..=140 {
-            expect_counted(rt.alloc(), character, units, len)?;
+fn counts_a_character_at_every_place(rt: HostRuntime) {
+    for row in &CHARACTERS {
+        for len in 0..141usize {
+            for place in 0..len.wrapping_add(1) {
+                assert_at(&rt, rt.alloc(), *row, len, place);
+            }
         }
     }
-    Ok(())
 }
