@@ -179,7 +179,10 @@ fn strict_other<F: Flavor>(
 
 /// Decodes strictly at most 64 bytes, of which some change.
 #[cfg_attr(not(debug_assertions), inline(always))]
-fn strict_few<F: Flavor>(bytes: &[u8], front: UnchangedPrefix) -> Result<Cow<'_, str>, DecodingError> {
+fn strict_few<F: Flavor>(
+    bytes: &[u8],
+    front: UnchangedPrefix,
+) -> Result<Cow<'_, str>, DecodingError> {
     let mut written = [0; FEW_STRICT];
     let Ok(len) = write_few::<F, StrictReading>(bytes, front, &mut written) else {
         return Err(DecodingError(()));
@@ -191,7 +194,10 @@ fn strict_few<F: Flavor>(bytes: &[u8], front: UnchangedPrefix) -> Result<Cow<'_,
 
 /// Decodes strictly more than 64 bytes. It is not inlined, so that fewer have few registers to save.
 #[cfg_attr(not(debug_assertions), inline(always))]
-fn strict_many<F: Flavor>(bytes: &[u8], front: UnchangedPrefix) -> Result<Cow<'_, str>, DecodingError> {
+fn strict_many<F: Flavor>(
+    bytes: &[u8],
+    front: UnchangedPrefix,
+) -> Result<Cow<'_, str>, DecodingError> {
     at_level! {
         #[inline(never)] {
             fn at_level<F: Flavor>(
