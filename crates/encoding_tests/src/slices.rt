@@ -1,12 +1,12 @@
 //! Encoding to buffers of each length up to one byte more than is needed.
 
-use crate::asserts::{assert_same, text_of};
+use crate::asserts::{ascii_with, assert_same, text_of};
 use std::alloc::Global;
 use std::ops::Range;
 use std::process::Abort;
 use std::str;
 use test_cases::borders::{BORDERS, Border};
-use test_cases::fills::{Input, repeated};
+use test_cases::fills::repeated;
 use test_cases::flavors::{FLAVORS, Flavor};
 use test_cases::pattern::{PATTERN, encoded_pattern};
 use test_cases::plain::encoded;
@@ -45,13 +45,7 @@ fn assert_encoded(rt: &impl Abort, alloc: Global, flavor: Flavor, text: &str) {
 
 /// ASCII of length `len`, with a character at one offset.
 fn assert_at(rt: &impl Abort, alloc: Global, len: usize, character: &str, place: usize) {
-    let input = Input {
-        fill: b"a",
-        len,
-        put: character.as_bytes(),
-        place,
-    };
-    let utf8 = input.inserted(alloc).expect(rt, "an input");
+    let utf8 = ascii_with(rt, alloc, len, character, place);
     let text = str::from_utf8(&utf8).unwrap_or("");
     assert_encoded(rt, alloc, Flavor::Cesu8, text);
     assert_encoded(rt, alloc, Flavor::Mutf8, text);

@@ -1,11 +1,11 @@
 //! The number of UTF-16 code units of a string.
 
-use crate::asserts::{assert_of, text_of};
+use crate::asserts::{ascii_with, assert_of, text_of};
 use std::alloc::Global;
 use std::process::Abort;
 use std::str;
 use test_cases::borders::BORDERS;
-use test_cases::fills::{Input, repeated};
+use test_cases::fills::repeated;
 use test_cases::pattern::PATTERN;
 
 /// Asserts the number of code units that are counted in a string.
@@ -59,13 +59,7 @@ fn assert_at(
     len: usize,
     place: usize,
 ) {
-    let input = Input {
-        fill: b"a",
-        len,
-        put: character.as_bytes(),
-        place,
-    };
-    let utf8 = input.inserted(alloc).expect(rt, "an input");
+    let utf8 = ascii_with(rt, alloc, len, character, place);
     let text = str::from_utf8(&utf8).unwrap_or("");
     assert_counted(rt, text, len.wrapping_add(units));
 }
