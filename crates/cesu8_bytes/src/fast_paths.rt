@@ -29,7 +29,7 @@ use std::simd::prelude::*;
 
 /// The largest input that is checked inline for unchanged ASCII. From this length on,
 /// `needs_encoded` searches four vectors at once.
-const SHORT: usize = 4 * LANES;
+const CHECKED_INLINE: usize = 4 * LANES;
 
 /// The largest input that a lenient call checks inline for ASCII.
 const TESTED_AT_ONCE: usize = 16 * LANES;
@@ -55,7 +55,7 @@ pub fn is_short_unchanged_ascii<F: Flavor>(bytes: &[u8]) -> bool
     ensures ascii { IsTrue result → IsAscii bytes.now }
     ensures unchanged { IsTrue result → ¬ (Any (IsChangedByte F.flavor) bytes.now) }
 {
-    bytes.len() <= SHORT && !any_in_bytes::<Either<F::Null, NonAscii>>(bytes)
+    bytes.len() <= CHECKED_INLINE && !any_in_bytes::<Either<F::Null, NonAscii>>(bytes)
 }
 
 /// Returns true only if the first `len` bytes are unchanged ASCII, `len` is at most 64, and the
@@ -79,7 +79,7 @@ pub fn needs_encoded<F: Flavor>(value: &str) -> bool
     ensures { IsTrue result ↔ NeedsEncoding F.flavor (chars value.now) }
 {
     let bytes = value.as_bytes();
-    if bytes.len() < SHORT {
+    if bytes.len() < CHECKED_INLINE {
         any_in_bytes::<Either<F::Null, FourByteLead>>(bytes)
     } else {
         any_in_long::<Either<F::Null, FourByteLead>>(bytes)

@@ -21,15 +21,15 @@ pub trait Reading {
 
     /// The error of strict decoding. For lossy decoding this type has no value, since that cannot
     /// fail.
-    type Refusal: Drop;
+    type Error: Drop;
 
     /// Returns strict or lossy, as a value.
     fn strictness() -> Strictness
         ensures { result ≡ which };
 
     /// Returns the decoded text, or an error if decoding is strict and rejected a byte.
-    fn unless_refused<T: Drop>(is_refused: bool, read: T) -> Result<T, Self::Refusal>
-        ensures { OkIff result (which ≡ Strict → is_refused ≡ false) read };
+    fn unless_rejected<T: Drop>(is_rejected: bool, read: T) -> Result<T, Self::Error>
+        ensures { OkIff result (which ≡ Strict → is_rejected ≡ false) read };
 }
 
 /// Strict decoding: an ill-formed byte is an error.
@@ -42,7 +42,7 @@ pub struct NoText;
 impl Reading for StrictReading {
     ghost which = { Strict };
 
-    type Refusal = NoText;
+    type Error = NoText;
 
     #[inline(always)]
     fn strictness() -> Strictness {
@@ -50,8 +50,8 @@ impl Reading for StrictReading {
     }
 
     #[inline(always)]
-    fn unless_refused<T: Drop>(is_refused: bool, read: T) -> Result<T, NoText> {
-        if is_refused { Err(NoText) } else { Ok(read) }
+    fn unless_rejected<T: Drop>(is_rejected: bool, read: T) -> Result<T, NoText> {
+        if is_rejected { Err(NoText) } else { Ok(read) }
     }
 }
 
@@ -61,7 +61,7 @@ pub struct LossyReading;
 impl Reading for LossyReading {
     ghost which = { Lossy };
 
-    type Refusal = Infallible;
+    type Error = Infallible;
 
     #[inline(always)]
     fn strictness() -> Strictness {
@@ -69,7 +69,7 @@ impl Reading for LossyReading {
     }
 
     #[inline(always)]
-    fn unless_refused<T: Drop>(_is_refused: bool, read: T) -> Result<T, Infallible> {
+    fn unless_rejected<T: Drop>(_is_refused: bool, read: T) -> Result<T, Infallible> {
         Ok(read)
     }
 }

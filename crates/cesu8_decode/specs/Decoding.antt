@@ -5,9 +5,10 @@ use Rattle.cesu8_text.specs.Reading.{HasNoStrictReading, lossy_length}
 use Rattle.cesu8_text.specs.Encoding.{Flavor}
 use Rattle.cesu8_bytes.specs.declared.strictness.Strictness.{Strictness}
 use Rattle.cesu8_bytes.specs.declared.strictness.Strictness.TheVariants.{Strict, Lossy}
-use Rattle.cesu8_decode.specs.declared.strategy.TheConstants.{FEW_BYTES, SMALL_ARRAY, LARGE_ARRAY, LARGEST_ARRAY}
+use Rattle.cesu8_bytes.specs.declared.lanes.class.TheConstants.{LANES}
+use Rattle.cesu8_decode.specs.declared.strategy.TheConstants.{SMALL_ARRAY, LARGE_ARRAY, LARGEST_ARRAY}
 use Rattle.cesu8_decode.specs.declared.strategy.Strategy.{Strategy}
-use Rattle.cesu8_decode.specs.declared.strategy.Strategy.TheVariants.{Few, SmallArray, LargeArray, LargestArray, Chunks}
+use Rattle.cesu8_decode.specs.declared.strategy.Strategy.TheVariants.{Short, SmallArray, LargeArray, LargestArray, Chunks}
 use Rattle.cesu8_decode.specs.declared.pass.window.TheConstants.{WIDEST, ROOM}
 use Rattle.cesu8_decode.specs.declared.pass.events.TheConstants.{STORED_AFTER}
 use Rattle.cesu8_decode.specs.declared.pass.windows.Pass.{Pass}
@@ -17,7 +18,7 @@ use Rattle.cesu8_bytes.specs.TextChunks.{IsReadSoFar}
 -- The strategy fits the bytes: they are at most as many as its limit, and for chunks more than
 -- every other limit.
 abbrev pub Takes : Strategy → List ℕ → Type 0
-Takes Few bytes = length bytes ≤ FEW_BYTES
+Takes Short bytes = length bytes ≤ LANES
 Takes SmallArray bytes = length bytes ≤ SMALL_ARRAY
 Takes LargeArray bytes = length bytes ≤ LARGE_ARRAY
 Takes LargestArray bytes = length bytes ≤ LARGEST_ARRAY
@@ -35,8 +36,8 @@ abbrev pub room_for : Strictness → ℕ → ℕ
 room_for which n = most_written which n + ROOM
 
 -- The space that at most 64 bytes need: for their text, and for what is stored after it.
-abbrev pub room_for_few : Strictness → ℕ
-room_for_few which = most_written which FEW_BYTES + STORED_AFTER
+abbrev pub room_for_short : Strictness → ℕ
+room_for_short which = most_written which LANES + STORED_AFTER
 
 -- The greatest length of the text of the bytes.
 abbrev pub most_of_text : Flavor → Strictness → List ℕ → ℕ
@@ -69,16 +70,16 @@ pub record BuildsReading {Z E : Type 0} (f : Flavor) (bytes : List ℕ) (result 
 
 -- A text ends with what is written for n bytes of a window from an offset on, or strict decoding
 -- rejects one of these bytes.
-pub record IsDecoded (f : Flavor) (which : Strictness) (window : List ℕ) (at n : ℕ) (before text : List ℕ) (is_refused : Bool) : Type 0 where
-  pub bytes : is_refused ≡ false → text ≡ before ++ decoded f window at n
-  pub refused : is_refused ≡ true → (i : ℕ) × (at ≤ i) × (i < at + n) × (is_ill_formed_at f window i ≡ true)
-  pub lossy : which ≡ Lossy → is_refused ≡ false
-  pub strict : which ≡ Strict → is_refused ≡ false → (i : ℕ) → at ≤ i → i < at + n → is_ill_formed_at f window i ≡ false
+pub record IsDecoded (f : Flavor) (which : Strictness) (window : List ℕ) (at n : ℕ) (before text : List ℕ) (is_rejected : Bool) : Type 0 where
+  pub bytes : is_rejected ≡ false → text ≡ before ++ decoded f window at n
+  pub refused : is_rejected ≡ true → (i : ℕ) × (at ≤ i) × (i < at + n) × (is_ill_formed_at f window i ≡ true)
+  pub lossy : which ≡ Lossy → is_rejected ≡ false
+  pub strict : which ≡ Strict → is_rejected ≡ false → (i : ℕ) → at ≤ i → i < at + n → is_ill_formed_at f window i ≡ false
 
 -- What is written for n bytes of a window (`IsDecoded`) is written after the first `start` bytes of
 -- a slice.
-pub record WritesDecoded (f : Flavor) (which : Strictness) (window : List ℕ) (at n start : ℕ) (old new : List ℕ) (new_end : ℕ) (is_refused : Bool) : Type 0 where
-  pub text : IsDecoded f which window at n (take start old) (take new_end new) is_refused
+pub record WritesDecoded (f : Flavor) (which : Strictness) (window : List ℕ) (at n start : ℕ) (old new : List ℕ) (new_end : ℕ) (is_rejected : Bool) : Type 0 where
+  pub text : IsDecoded f which window at n (take start old) (take new_end new) is_rejected
   pub end : new_end ≤ start + most_written which n
   pub len : length new ≡ length old
 
@@ -89,15 +90,15 @@ pub record IsPass (f : Flavor) (bytes : List ℕ) (read : ℕ) : Type 0 where
 
 -- The state of a pass that has read some bytes, and whose buffer is empty.
 abbrev pub pass_from : ℕ → Pass
-pass_from read = record { read = read; end = 0; is_refused = false }
+pass_from read = record { read = read; end = 0; is_rejected = false }
 
 -- The pass has read more bytes, and their text is written after the text of the bytes that were
 -- read before.
 pub record GoesOn (f : Flavor) (which : Strictness) (bytes : List ℕ) (before after : Pass) (old new : List ℕ) : Type 0 where
-  pub pass : after.is_refused ≡ false → IsPass f bytes after.read
+  pub pass : after.is_rejected ≡ false → IsPass f bytes after.read
   pub within : (before.read ≤ after.read) × (after.read ≤ length bytes)
   pub text : (start text : List ℕ) → IsDecoded f which (window_of bytes) 0 before.read start (text ++ take before.end old) false →
-      IsDecoded f which (window_of bytes) 0 after.read start (text ++ take after.end new) after.is_refused
+      IsDecoded f which (window_of bytes) 0 after.read start (text ++ take after.end new) after.is_rejected
   pub end : after.end + most_written which before.read ≤ before.end + most_written which after.read
   pub inside : after.end ≤ length new
   pub len : length new ≡ length old
@@ -107,5 +108,5 @@ pub record AppendsNext {Z : Type 0} (f : Flavor) (which : Strictness) (bytes : L
   pub old : List ℕ
   pub new : List ℕ
   pub more : GoesOn f which bytes (pass_from read) after old new
-  pub text : after.is_refused ≡ false → out.items ≡ before.items ++ take after.end new
+  pub text : after.is_rejected ≡ false → out.items ≡ before.items ++ take after.end new
   pub capacity : vec_capacity out ≡ vec_capacity before

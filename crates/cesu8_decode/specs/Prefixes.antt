@@ -7,7 +7,7 @@ use Rattle.cesu8_decode.specs.DecodedOffsets.{is_ill_formed_at, window_of}
 use Rattle.cesu8_decode.specs.Following.{CharacterSet, Encoded, Unchanged}
 use Rattle.cesu8_decode.specs.Masks.{Marks, is_pair_at, is_null_at}
 use Rattle.cesu8_decode.specs.declared.prefix.window.UnchangedPrefix.{UnchangedPrefix}
-use Rattle.cesu8_decode.specs.declared.strategy.TheConstants.{FEW_BYTES}
+use Rattle.cesu8_bytes.specs.declared.lanes.class.TheConstants.{LANES}
 
 -- The scalar values whose encoding is not in the set.
 abbrev pub IsOutside : CharacterSet → Flavor → ℕ → Type 0
@@ -39,8 +39,8 @@ pub record AreChanges (f : Flavor) (bytes : List ℕ) (mask : ℕ) : Type 0 wher
 -- characters that need conversion, or it is 0 if there are none or a byte is ill-formed.
 pub record IsUnchangedPrefix (f : Flavor) (bytes : List ℕ) (prefix : UnchangedPrefix) : Type 0 where
   pub len : IsLongestPrefix Unchanged f bytes prefix.len
-  pub changes : length bytes ≤ FEW_BYTES → ¬ (prefix.changed ≡ 0) → AreChanges f bytes prefix.changed
-  pub none : length bytes ≤ FEW_BYTES → prefix.changed ≡ 0 → prefix.len < length bytes → HasNoStrictReading f bytes
+  pub changes : length bytes ≤ LANES → ¬ (prefix.changed ≡ 0) → AreChanges f bytes prefix.changed
+  pub none : length bytes ≤ LANES → prefix.changed ≡ 0 → prefix.len < length bytes → HasNoStrictReading f bytes
 
 -- This is the unchanged prefix, and it is not all of the bytes.
 pub record IsProperPrefix (f : Flavor) (bytes : List ℕ) (prefix : UnchangedPrefix) : Type 0 where

@@ -13,10 +13,10 @@ ghost use Rattle.cesu8_text.proofs.reading.KeptTexts.{encoding_texts, lenient_te
 ghost use Rattle.cesu8_decode.specs.Prefixes.{IsProperPrefix, IsPrefixUnlessKept};
 
 use crate::prefix::{UnchangedPrefix, unchanged_prefix};
-use crate::strategy::are_few;
 use crate::utf8::is_utf8_by_parts;
 use cesu8_bytes::fast_paths::{is_short_ascii, is_short_unchanged_ascii};
 use cesu8_bytes::flavor::{Cesu8Flavor, Flavor};
+use cesu8_bytes::lanes::short::are_short;
 
 /// A mode: `EncodingAlone` for calls with `strict` in their names, and `Lenient` for the others.
 pub trait Accepts {
@@ -109,7 +109,7 @@ fn all_if_utf8(bytes: &[u8], prefix: UnchangedPrefix) -> UnchangedPrefix
 {
     // At most 64 bytes are tested from the start, which takes no longer, so that no branch depends
     // on the prefix.
-    let start = if are_few(bytes) { 0 } else { prefix.len };
+    let start = if are_short(bytes) { 0 } else { prefix.len };
     if !is_utf8_by_parts(&bytes[start..]) {
         return prefix;
     }

@@ -3,9 +3,9 @@
 //! - `events`: writes the text of a window
 //! - `window`: finds the events of one window and writes its text
 //! - `windows`: successive windows, until the input ends or the buffer is full
-//! - `few`: at most 64 bytes, as one window without the loop
+//! - `short`: at most 64 bytes, as one window without the loop
 
 pub mod events;
-pub mod few;
+pub mod short;
 mod window;
 pub mod windows;

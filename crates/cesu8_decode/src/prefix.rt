@@ -15,11 +15,11 @@ pub mod window;
 
 use crate::lanes::character_set::{CharacterSet, DECIDING, Unchanged};
 use crate::lanes::following::{block_after, following_len, two_follow};
-use crate::strategy::{FEW_BYTES, are_few};
 use cesu8_bytes::BLOCK;
 use cesu8_bytes::flavor::Flavor;
-use cesu8_bytes::lanes::class::{Either, NonAscii};
+use cesu8_bytes::lanes::class::{Either, LANES, NonAscii};
 use cesu8_bytes::lanes::runs::run_of_groups;
+use cesu8_bytes::lanes::short::are_short;
 use std::simd::prelude::*;
 pub use window::UnchangedPrefix;
 use window::prefix_by_window;
@@ -29,7 +29,7 @@ use window::prefix_by_window;
 pub fn unchanged_prefix<F: Flavor>(bytes: &[u8]) -> UnchangedPrefix
     ensures { IsUnchangedPrefix F.flavor bytes.now result }
 {
-    if are_few(bytes) {
+    if are_short(bytes) {
         return prefix_by_window::<F>(bytes);
     }
     UnchangedPrefix {
@@ -42,7 +42,7 @@ pub fn unchanged_prefix<F: Flavor>(bytes: &[u8]) -> UnchangedPrefix
 /// 64 bytes.
 #[inline(always)]
 pub fn longest_prefix<F: Flavor, S: CharacterSet>(bytes: &[u8]) -> usize
-    requires { FEW_BYTES < length bytes.now }
+    requires { LANES < length bytes.now }
     ensures { IsLongestPrefix S.set F.flavor bytes.now result }
 {
     last_boundary::<F, S>(bytes, following_many::<F, S>(bytes))
@@ -53,7 +53,7 @@ pub fn longest_prefix<F: Flavor, S: CharacterSet>(bytes: &[u8]) -> usize
 /// or else tests one block. It is not inlined, since it is long.
 #[inline(never)]
 fn following_many<F: Flavor, S: CharacterSet>(bytes: &[u8]) -> usize
-    requires { FEW_BYTES < length bytes.now }
+    requires { LANES < length bytes.now }
     ensures { FollowUpTo S.set F.flavor bytes.now result }
 {
     let run = run_of_groups::<Either<F::Null, NonAscii>>(bytes);
@@ -73,7 +73,7 @@ fn following_many<F: Flavor, S: CharacterSet>(bytes: &[u8]) -> usize
 #[inline(always)]
 fn following_from<F: Flavor, S: CharacterSet>(bytes: &[u8], start: usize) -> usize
     requires first { FirstFollow S.set F.flavor bytes.now start }
-    requires start { (DECIDING ≤ start) × (FEW_BYTES < length bytes.now) }
+    requires start { (DECIDING ≤ start) × (LANES < length bytes.now) }
     ensures { FollowUpTo S.set F.flavor bytes.now result }
 {
     let mut at = following_twos::<F, S>(bytes, start);

@@ -3,14 +3,14 @@
 //!
 //! | bytes | strategy | strict | lossy |
 //! |---|---|---|---|
-//! | at most 64 (`FEW_BYTES`) | `Few` | one window | one window |
+//! | at most 64 (`LANES`) | `Short` | one window | one window |
 //! | at most 256 (`SMALL_ARRAY`) | `SmallArray` | a small array | a small array |
 //! | at most 1,024 (`LARGE_ARRAY`) | `LargeArray` | a large array | a large array |
 //! | at most 4,096 (`LARGEST_ARRAY`) | `LargestArray` | chunks | the largest array |
 //! | more | `Chunks` | chunks | chunks |
 //!
 //! - One window: the test for the unchanged prefix has computed the masks of a window. If no byte
-//!   is ill-formed, `pass::few` writes the text by the mask of the characters that need conversion.
+//!   is ill-formed, `pass::short` writes the text by the mask of the characters that need conversion.
 //!   Otherwise strict decoding returns an error, and lossy decoding computes all masks again.
 //! - The arrays: one pass over the bytes in windows of 64, written to an array on the stack from
 //!   which the text is copied. The pass has few branches on the content of a window, since they
@@ -33,19 +33,17 @@ ghost use Rattle.std.specs.Prelude.{◌≤◌, ◌↔◌, IsTrue, length};
 ghost use Rattle.cesu8_decode.specs.Decoding.{Takes};
 
 use cesu8_bytes::BLOCK;
+use cesu8_bytes::lanes::class::LANES;
 
 /// The strategies, from the one for the shortest input on.
 #[derive(Clone, Copy)]
 pub enum Strategy {
-    Few,
+    Short,
     SmallArray,
     LargeArray,
     LargestArray,
     Chunks,
 }
-
-/// The most bytes that one window holds: a mask has 64 bits, one for each byte.
-pub const FEW_BYTES: usize = 2 * BLOCK;
 
 /// The most bytes that are decoded to the small array.
 pub const SMALL_ARRAY: usize = 256;
@@ -62,7 +60,7 @@ pub fn strategy_of(bytes: &[u8]) -> Strategy
     ensures { Takes result bytes.now }
 {
     match bytes.len() {
-        0..=FEW_BYTES => Strategy::Few,
+        0..=LANES => Strategy::Short,
         0..=SMALL_ARRAY => Strategy::SmallArray,
         0..=LARGE_ARRAY => Strategy::LargeArray,
         0..=LARGEST_ARRAY => Strategy::LargestArray,
@@ -76,12 +74,4 @@ pub fn is_one_block(bytes: &[u8]) -> bool
     ensures { IsTrue result ↔ length bytes.now ≤ BLOCK }
 {
     bytes.len() <= BLOCK
-}
-
-/// Returns whether the bytes fit in one window, 64 bytes.
-#[inline(always)]
-pub fn are_few(bytes: &[u8]) -> bool
-    ensures { IsTrue result ↔ length bytes.now ≤ FEW_BYTES }
-{
-    bytes.len() <= FEW_BYTES
 }

@@ -9,11 +9,11 @@ ghost use Rattle.cesu8_text.specs.Fronts.{IsValidUpTo};
 ghost use Rattle.cesu8_text.specs.Reading.{IsStrictReading, HasNoStrictReading, reading};
 
 use crate::lanes::character_set::Encoded;
-use crate::lanes::windows::window_of_few;
+use crate::lanes::windows::window_of_short;
 use crate::prefix::longest_prefix;
-use crate::strategy::are_few;
 use cesu8_bytes::fast_paths::is_short_unchanged_ascii;
 use cesu8_bytes::flavor::Flavor;
+use cesu8_bytes::lanes::short::are_short;
 
 /// Returns the length of the valid prefix.
 #[inline(always)]
@@ -32,8 +32,8 @@ pub fn valid_up_to<F: Flavor>(bytes: &[u8]) -> usize
 pub fn valid_up_to_other<F: Flavor>(bytes: &[u8]) -> usize
     ensures { IsValidUpTo F.flavor bytes.now result }
 {
-    if are_few(bytes) {
-        let window = window_of_few::<F>(bytes);
+    if are_short(bytes) {
+        let window = window_of_short::<F>(bytes);
         return (window.ill_formed.trailing_zeros() as usize).min(bytes.len());
     }
     longest_prefix::<F, Encoded>(bytes)

@@ -4,7 +4,7 @@ use Rattle.std.proofs.lemmas.List.{take-append-drop}
 use Rattle.std.proofs.lemmas.Grind.{common_steps}
 use Rattle.std.proofs.lemmas.Bool.{cases_lt}
 use Rattle.cesu8_stream.specs.Written.{Begins, NoneCrosses}
-use Rattle.cesu8_stream.proofs.First.{Sizes, begins_front}
+use Rattle.cesu8_stream.proofs.First.{Sizes, begins_prefix}
 
 -- No character begins at these offsets, from five before the place on, and ends after it.
 abbrev pub NoneFrom : (List ℕ → List ℕ) → List ℕ → ℕ → ℕ → Type 0
@@ -55,4 +55,4 @@ none_crosses write bytes more place sizes within none i c low b =
         subst (λ bs. Begins write bs c) (drop_before i place bytes more below (omega arith)) b in
         let front : take n (drop i bytes ++ more) ≡ drop i bytes = grind (arith, common_steps) in
         none i c below near
-        (subst (λ bs. Begins write bs c) front (begins_front write (drop i bytes ++ more) n c whole (omega arith)))
+        (subst (λ bs. Begins write bs c) front (begins_prefix write (drop i bytes ++ more) n c whole (omega arith)))

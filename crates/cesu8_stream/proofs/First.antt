@@ -26,9 +26,9 @@ first_length write bytes c b =
     omega (arith, e)
 
 -- So that character also begins the first bytes, if these are enough,
-pub begins_front : (write : List ℕ → List ℕ) (bytes : List ℕ) (n c : ℕ) → Begins write bytes c →
+pub begins_prefix : (write : List ℕ → List ℕ) (bytes : List ℕ) (n c : ℕ) → Begins write bytes c →
     length (write (c ∷ [])) ≤ n → Begins write (take n bytes) c
-begins_front write bytes n c b enough =
+begins_prefix write bytes n c b enough =
     let len = length (write (c ∷ [])) in
     let more : n ≡ len + (n - len) = omega arith in
     record {
@@ -61,7 +61,7 @@ never_begins write bytes sizes none many more c b =
     let len = length (write (c ∷ [])) in
     let few : len ≤ length bytes = let h = sizes.few c in omega arith in
     let front : take (length bytes) (bytes ++ more) ≡ bytes = grind (arith, common_steps) in
-    none c (subst (λ bs. Begins write bs c) front (begins_front write (bytes ++ more) (length bytes) c b few))
+    none c (subst (λ bs. Begins write bs c) front (begins_prefix write (bytes ++ more) (length bytes) c b few))
 
 -- A text with a byte begins with a character.
 pub text_begins : (write : List ℕ → List ℕ) (bytes text : List ℕ) → Appends write → write [] ≡ [] → 0 < length bytes →
@@ -102,7 +102,7 @@ shortest_is_first from to bytes n c room append sizes empty some one least text 
         long (c ∷ []) ((b.scalar, tt), sym (ap (λ k. take k bytes) exact ∙ first_bytes from bytes c b))
 
     by : (len < n) ⊎ (n ≤ len) → room < length (to (c ∷ []))
-    by (inl shorter) = absurd (least len (sizes.some c) shorter c (begins_front from bytes len c b (omega arith)))
+    by (inl shorter) = absurd (least len (sizes.some c) shorter c (begins_prefix from bytes len c b (omega arith)))
     by (inr longer) =
         let front = text_begins from (take n bytes) text append empty (grind (arith, common_steps)) written in
         by_first longer front.0 front.1
@@ -130,7 +130,7 @@ none_of_six write bytes end sizes is none c b =
     let len = length (write (c ∷ [])) in
     let few = sizes.few c in
     let within : len ≤ length bytes = first_length write bytes c b in
-    none len (sizes.some c) (omega arith) c (begins_front write bytes len c b (omega arith))
+    none len (sizes.some c) (omega arith) c (begins_prefix write bytes len c b (omega arith))
 
 -- If no character begins the first six bytes, none begins the bytes.
 pub none_of_first : (write : List ℕ → List ℕ) (bytes : List ℕ) (most : ℕ) → Sizes write → most ≡ min (length bytes) 6 →
@@ -141,7 +141,7 @@ none_of_first write bytes most sizes is none c b =
     let few = sizes.few c in
     let within : len ≤ length bytes = first_length write bytes c b in
     let enough : len ≤ most = omega arith in
-    none (grind (arith, common_steps)) c (begins_front write bytes most c b enough)
+    none (grind (arith, common_steps)) c (begins_prefix write bytes most c b enough)
 
 -- The first character is no longer than the shortest text at the front of the bytes.
 pub first_within : (write : List ℕ → List ℕ) (bytes text : List ℕ) (n c : ℕ) → Appends write → write [] ≡ [] →

@@ -28,6 +28,6 @@ found_in_ends P n xs front end fits covers f e = (
 )
 
 -- If nothing from an index on changes, nothing from a later index on does.
-pub stays_behind : (old new : List ℕ) (at end : ℕ) → at ≤ end → drop at new ≡ drop at old → drop end new ≡ drop end old
-stays_behind old new at end later same =
+pub same_after : (old new : List ℕ) (at end : ℕ) → at ≤ end → drop at new ≡ drop at old → drop end new ≡ drop end old
+same_after old new at end later same =
     grind (arith, common_steps, drop-drop (end - at) at new, drop-drop (end - at) at old)

@@ -59,9 +59,9 @@ pub appended_again : (before bytes : List ℕ) (at written n : ℕ) → at ≤ w
 appended_again before bytes at written n le = grind (arith, append_assoc, take-add, take-append-add, take-take)
 
 -- Bytes that are written after others are written together with them.
-pub written_behind : (first more old between new : List ℕ) (at end after : ℕ) → WritesAt first at old between end → WritesAt more end between new after →
+pub written_after : (first more old between new : List ℕ) (at end after : ℕ) → WritesAt first at old between end → WritesAt more end between new after →
     WritesAt (first ++ more) at old new after
-written_behind first more old between new at end after so_far next = record {
+written_after first more old between new at end after so_far next = record {
   bytes = next.bytes ∙ ap (λ bs. bs ++ more) so_far.bytes ∙ append_assoc (take at old) first more;
   end = omega (arith, length-append first more);
   len = next.len ∙ so_far.len;
@@ -71,5 +71,5 @@ written_behind first more old between new at end after so_far next = record {
 pub written_by_four : (a b c d x0 x1 x2 x3 x4 : List ℕ) (n0 n1 n2 n3 n4 : ℕ) → WritesAt a n0 x0 x1 n1 → WritesAt b n1 x1 x2 n2 → WritesAt c n2 x2 x3 n3 →
     WritesAt d n3 x3 x4 n4 → WritesAt (a ++ (b ++ (c ++ d))) n0 x0 x4 n4
 written_by_four a b c d x0 x1 x2 x3 x4 n0 n1 n2 n3 n4 wa wb wc wd =
-    written_behind a (b ++ (c ++ d)) x0 x1 x4 n0 n1 n4 wa
-    (written_behind b (c ++ d) x1 x2 x4 n1 n2 n4 wb (written_behind c d x2 x3 x4 n2 n3 n4 wc wd))
+    written_after a (b ++ (c ++ d)) x0 x1 x4 n0 n1 n4 wa
+    (written_after b (c ++ d) x1 x2 x4 n1 n2 n4 wb (written_after c d x2 x3 x4 n2 n3 n4 wc wd))

@@ -40,8 +40,8 @@ sum_by_next f xs a n = grind (arith, drop-drop, sum_by-take-drop)
 -- ---- bits of marks
 
 -- The bits of a mask above the first n are as many as the later elements that pass.
-pub bits_behind : (p : ℕ → Bool) (xs : List ℕ) (n bits : ℕ) → n ≤ length xs → bits ≡ mask_l (map p xs) → count_ones (bits / 2 ^ n) ≡ count_by p (drop n xs)
-bits_behind p xs n bits le is = grind (arith, drop-map, length-map, mask_rest, ones-mask_l)
+pub bits_after : (p : ℕ → Bool) (xs : List ℕ) (n bits : ℕ) → n ≤ length xs → bits ≡ mask_l (map p xs) → count_ones (bits / 2 ^ n) ≡ count_by p (drop n xs)
+bits_after p xs n bits le is = grind (arith, drop-map, length-map, mask_rest, ones-mask_l)
 
 -- ---- lanes that count their own bytes
 

@@ -29,7 +29,7 @@ pub fn append(bytes: &[u8], out: &mut Vec<u8>)
     // written would store it.
     let mut taken = mem::replace(out, Vec::new(*out.allocator()));
     match bytes.len() {
-        0..=LANES => append_few(bytes, &mut taken),
+        0..=LANES => append_short(bytes, &mut taken),
         0..LONG => append_vectors(bytes, &mut taken),
         _ => append_each(bytes, &mut taken),
     }
@@ -40,7 +40,7 @@ pub fn append(bytes: &[u8], out: &mut Vec<u8>)
 /// Up to 64 are copied as one vector that is then truncated: a copy of variable length would
 /// mispredict.
 #[inline(always)]
-pub fn append_front(bytes: &[u8], len: usize, out: &mut Vec<u8>)
+pub fn append_prefix(bytes: &[u8], len: usize, out: &mut Vec<u8>)
     requires lanes { LANES ≤ length bytes.now }
     requires len { len ≤ length bytes.now }
     requires room { vec_len out.old + length bytes.now ≤ vec_capacity out.old }
@@ -60,7 +60,7 @@ pub fn append_front(bytes: &[u8], len: usize, out: &mut Vec<u8>)
 
 /// Appends at most 64 bytes, for `append` and for callers that know that there are no more.
 #[inline(always)]
-pub fn append_few(bytes: &[u8], out: &mut Vec<u8>)
+pub fn append_short(bytes: &[u8], out: &mut Vec<u8>)
     requires few { length bytes.now ≤ LANES }
     requires room { vec_len out.old + length bytes.now ≤ vec_capacity out.old }
     ensures { Appends bytes.now out.old out.new }

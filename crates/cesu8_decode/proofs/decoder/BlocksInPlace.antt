@@ -91,16 +91,16 @@ unfolding decoded
 none_decoded f which window before = grind (arith, nat_tests, common_steps)
 
 -- What is written for the next n bytes continues what is written for the first ones.
-pub more_decoded : (f : Flavor) (which : Strictness) (window before old text : List ℕ) (at n : ℕ) (is_refused : Bool) →
-    IsDecoded f which window 0 at before old false → IsDecoded f which window at n old text is_refused →
-    IsDecoded f which window 0 (at + n) before text is_refused
-more_decoded f which window before old text at n is_refused first next = grind (arith, nat_tests, more_written, cases_lt)
+pub more_decoded : (f : Flavor) (which : Strictness) (window before old text : List ℕ) (at n : ℕ) (is_rejected : Bool) →
+    IsDecoded f which window 0 at before old false → IsDecoded f which window at n old text is_rejected →
+    IsDecoded f which window 0 (at + n) before text is_rejected
+more_decoded f which window before old text at n is_rejected first next = grind (arith, nat_tests, more_written, cases_lt)
 
 -- What is written for n bytes depends on ten bytes more: the five before them and the five after
 -- them.
-pub decoded_in : (f : Flavor) (which : Strictness) (a b before text : List ℕ) (i j n : ℕ) (is_refused : Bool) → Agree a b i j (n + 10) →
-    IsDecoded f which a i n before text is_refused → IsDecoded f which b j n before text is_refused
-decoded_in f which a b before text i j n is_refused agree is = record {
+pub decoded_in : (f : Flavor) (which : Strictness) (a b before text : List ℕ) (i j n : ℕ) (is_rejected : Bool) → Agree a b i j (n + 10) →
+    IsDecoded f which a i n before text is_rejected → IsDecoded f which b j n before text is_rejected
+decoded_in f which a b before text i j n is_rejected agree is = record {
   bytes = λ none. is.bytes none ∙ ap (λ bs. before ++ bs) (decoded_agrees f a b i j n agree);
   refused = λ some.
       let found = is.refused some in
@@ -120,10 +120,10 @@ decoded_in f which a b before text i j n is_refused agree is = record {
     same s small = ill_formed_agrees f a b (i + s) (j + s) (agree_later a b i j (n + 10) s 11 (omega arith) agree)
 
 -- If no byte is rejected, what decoding gives for the bytes is written.
-pub writes_decoded : (f : Flavor) (which : Strictness) (window bytes old new : List ℕ) (at n end new_end : ℕ) (is_refused : Bool) →
+pub writes_decoded : (f : Flavor) (which : Strictness) (window bytes old new : List ℕ) (at n end new_end : ℕ) (is_rejected : Bool) →
     bytes ≡ decoded f window at n → (which ≡ Strict → (i : ℕ) → at ≤ i → i < at + n → is_ill_formed_at f window i ≡ false) →
-    is_refused ≡ false → WritesAt bytes end old new new_end → WritesDecoded f which window at n end old new new_end is_refused
-writes_decoded f which window bytes old new at n end new_end is_refused is fine none writes = grind (arith, nat_tests, no_longer)
+    is_rejected ≡ false → WritesAt bytes end old new new_end → WritesDecoded f which window at n end old new new_end is_rejected
+writes_decoded f which window bytes old new at n end new_end is_rejected is fine none writes = grind (arith, nat_tests, no_longer)
 
 -- If strict decoding rejects a byte, nothing is written.
 pub writes_none : (f : Flavor) (which : Strictness) (window old : List ℕ) (at n end : ℕ) → which ≡ Strict →
@@ -149,15 +149,15 @@ all_decoded f which bytes start text n is all =
     chunk Lossy is = lossy_chunk f bytes (window_of bytes) n padded (omega arith) boundary
 
 -- If strict decoding rejects no byte, none is rejected.
-pub none_refused : (f : Flavor) (which : Strictness) (window old new : List ℕ) (at n : ℕ) (is_refused : Bool) →
-    IsDecoded f which window at n old new is_refused → (which ≡ Strict → is_refused ≡ false) → is_refused ≡ false
-none_refused f Strict window old new at n is_refused is strict = strict refl
-none_refused f Lossy window old new at n is_refused is strict = is.lossy refl
+pub none_rejected : (f : Flavor) (which : Strictness) (window old new : List ℕ) (at n : ℕ) (is_rejected : Bool) →
+    IsDecoded f which window at n old new is_rejected → (which ≡ Strict → is_rejected ≡ false) → is_rejected ≡ false
+none_rejected f Strict window old new at n is_rejected is strict = strict refl
+none_rejected f Lossy window old new at n is_rejected is strict = is.lossy refl
 
 -- If it is not true that strict decoding rejects nothing, a byte was rejected.
-pub some_refused : (which : Strictness) (is_refused : Bool) → ¬ (which ≡ Strict → is_refused ≡ false) → is_refused ≡ true
-some_refused which true some = refl
-some_refused which false some = absurd (some (λ _. refl))
+pub some_rejected : (which : Strictness) (is_rejected : Bool) → ¬ (which ≡ Strict → is_rejected ≡ false) → is_rejected ≡ true
+some_rejected which true some = refl
+some_rejected which false some = absurd (some (λ _. refl))
 
 -- If a byte was rejected, the bytes have no strict reading.
 pub refused_decoded : (f : Flavor) (which : Strictness) (bytes start text : List ℕ) (n : ℕ) → IsDecoded f which (window_of bytes) 0 n start text true →

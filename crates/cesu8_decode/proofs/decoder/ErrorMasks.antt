@@ -237,28 +237,28 @@ stop_after s f bytes start at n before near room each stops = record {
 }
 
 -- Whether a byte of a prefix can follow does not depend on the bytes after the prefix.
-follows_in_front : (s : CharacterSet) (f : Flavor) (bytes : List ℕ) (m k : ℕ) → m ≤ length bytes → k < m →
+follows_in_prefix : (s : CharacterSet) (f : Flavor) (bytes : List ℕ) (m k : ℕ) → m ≤ length bytes → k < m →
     follows_at s f (after_fillers bytes) k ≡ follows_at s f (after_fillers (take m bytes)) k
-follows_in_front s f bytes m k fits inside =
+follows_in_prefix s f bytes m k fits inside =
     let long = length-take-le m bytes fits in
     ap (λ bytes. follows_at s f (after_fillers bytes) k) (sym (take-append-drop m bytes))
     ∙ follows_agrees s f (after_fillers (take m bytes ++ drop m bytes)) (after_fillers (take m bytes)) k k
     (λ j few. get_or_append_left (after_fillers (take m bytes)) (drop m bytes) 0 (k + j) (omega arith))
 
 -- If the first n bytes of a prefix can follow each other, they can in all bytes.
-pub first_of_front : (s : CharacterSet) (f : Flavor) (bytes : List ℕ) (m n : ℕ) → m ≤ length bytes → FirstFollow s f (take m bytes) n → FirstFollow s f bytes n
-first_of_front s f bytes m n fits first =
+pub first_of_prefix : (s : CharacterSet) (f : Flavor) (bytes : List ℕ) (m n : ℕ) → m ≤ length bytes → FirstFollow s f (take m bytes) n → FirstFollow s f bytes n
+first_of_prefix s f bytes m n fits first =
     let long = length-take-le m bytes fits in
     record {
       within = omega (arith, first.within, long);
-      follow = λ k before. follows_in_front s f bytes m k fits (omega (arith, before, first.within)) ∙ first.follow k before;
+      follow = λ k before. follows_in_prefix s f bytes m k fits (omega (arith, before, first.within)) ∙ first.follow k before;
     }
 
 -- The first byte of a prefix that cannot follow is also the first one of all bytes.
-pub stop_in_front : (s : CharacterSet) (f : Flavor) (bytes : List ℕ) (m n : ℕ) → m ≤ length bytes → n < m → FollowUpTo s f (take m bytes) n → FollowUpTo s f bytes n
-stop_in_front s f bytes m n fits before up_to = record {
-  first = first_of_front s f bytes m n fits up_to.first;
-  stops = λ more. follows_in_front s f bytes m n fits before ∙ up_to.stops (omega (arith, before, length-take-le m bytes fits));
+pub stop_in_prefix : (s : CharacterSet) (f : Flavor) (bytes : List ℕ) (m n : ℕ) → m ≤ length bytes → n < m → FollowUpTo s f (take m bytes) n → FollowUpTo s f bytes n
+stop_in_prefix s f bytes m n fits before up_to = record {
+  first = first_of_prefix s f bytes m n fits up_to.first;
+  stops = λ more. follows_in_prefix s f bytes m n fits before ∙ up_to.stops (omega (arith, before, length-take-le m bytes fits));
 }
 
 -- Characters of one byte can follow each other.

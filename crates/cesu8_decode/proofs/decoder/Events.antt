@@ -11,7 +11,7 @@ use Rattle.cesu8_text.specs.Encoding.{Flavor}
 use Rattle.cesu8_bytes.specs.Puts.{WritesAt}
 use Rattle.cesu8_bytes.specs.declared.strictness.Strictness.{Strictness}
 use Rattle.cesu8_bytes.specs.declared.strictness.Strictness.TheVariants.{Strict, Lossy}
-use Rattle.cesu8_bytes.proofs.lists.Stored.{written_behind}
+use Rattle.cesu8_bytes.proofs.lists.Stored.{written_after}
 use Rattle.cesu8_decode.specs.Decoding.{most_written}
 use Rattle.cesu8_decode.specs.DecodedOffsets.{width_at, window_of, is_boundary_at, is_ill_formed_at, decoded}
 use Rattle.cesu8_decode.specs.Masks.{HoldWindow, IsWindow, is_null_at, is_pair_at}
@@ -104,7 +104,7 @@ module _ {f : Flavor} {which : Strictness} {bytes : List ℕ} {at : ℕ} {window
       let all : read + (next - read) ≡ next = omega arith in
       let kept = kept_decoded f bytes (at + read) (next - read) (omega (arith, long)) so_far.boundary (λ i low inside. no_event_before next within none i low (omega arith)) in
       let more = subst (λ bs. WritesAt bs end new mid copied) kept copy in
-      let both = written_behind (decoded f (window_of bytes) at read) (decoded f (window_of bytes) (at + read) (next - read)) old new mid start end copied so_far.text more in (
+      let both = written_after (decoded f (window_of bytes) at read) (decoded f (window_of bytes) (at + read) (next - read)) old new mid start end copied so_far.text more in (
         subst (λ bs. WritesAt bs start old mid copied) (sym (decoded_split f (window_of bytes) at read (next - read)) ∙ ap (decoded f (window_of bytes) at) all) both,
         omega (
           arith,
@@ -166,7 +166,7 @@ module _ {f : Flavor} {which : Strictness} {bytes : List ℕ} {at : ℕ} {window
       joined : (m : ℕ) → WritesAt (decoded f (window_of bytes) (at + next) m) copied mid last after → WritesAt (decoded f (window_of bytes) at (next + m)) start old last after
       joined m more =
           subst (λ bs. WritesAt bs start old last after) (sym (decoded_split f (window_of bytes) at next m))
-          (written_behind (decoded f (window_of bytes) at next) (decoded f (window_of bytes) (at + next) m) old mid last start copied after before.0 more)
+          (written_after (decoded f (window_of bytes) at next) (decoded f (window_of bytes) (at + next) m) old mid last start copied after before.0 more)
 
       -- The buffer has space for the bytes of one more event.
       pub event_room : copied ≤ start + most_written which window.len

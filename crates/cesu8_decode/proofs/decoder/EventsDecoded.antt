@@ -9,7 +9,7 @@ use Rattle.cesu8_text.specs.Encoding.{Flavor}
 use Rattle.cesu8_text.specs.Reading.{reading}
 use Rattle.cesu8_text.proofs.reading.Decoding.{utf8_append}
 use Rattle.cesu8_bytes.specs.Puts.{WritesAt}
-use Rattle.cesu8_bytes.proofs.lists.Stored.{first_written, written_behind}
+use Rattle.cesu8_bytes.proofs.lists.Stored.{first_written, written_after}
 use Rattle.cesu8_bytes.specs.Pairs.{null_at, IsUtf8OfDigits, second_third_fifth_sixth, HasPair}
 use Rattle.cesu8_bytes.specs.TextChunks.{IsReadSoFar}
 use Rattle.cesu8_bytes.specs.declared.strictness.Strictness.TheVariants.{Lossy}
@@ -292,4 +292,4 @@ replacements_stored m n start at last lanes old mid new few are before stored ro
     let more = first_written (3 * n) at last lanes mid new (omega (arith, ap length are, long, length_replacements 10)) room stored in
     let some = subst (λ bs. WritesAt bs at mid new (at + 3 * n)) (ap (take (3 * n)) are ∙ first_replacements n few) more in
     subst (λ bs. WritesAt bs start old new (at + 3 * n)) (sym (replacements_more m n))
-    (written_behind (utf8 (replicate m 0xFFFD)) (utf8 (replicate n 0xFFFD)) old mid new start at (at + 3 * n) before some)
+    (written_after (utf8 (replicate m 0xFFFD)) (utf8 (replicate n 0xFFFD)) old mid new start at (at + 3 * n) before some)

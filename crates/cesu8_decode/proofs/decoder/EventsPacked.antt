@@ -1,5 +1,5 @@
 -- What shuffles pack for a window, byte by byte.
-use Rattle.std.proofs.Common.{◌≡◌, ◌≢◌, ℕ, zero, suc, ◌+◌, ◌-◌, ◌*◌, ◌/◌, ◌%◌, ◌^◌, ◌<◌, ◌≤◌, ⊎_elim, Bool, true, false, true≢false, cond, eqb, List, [], ◌∷◌, ◌++◌, refl, sym, ap, ◌∙◌, subst, arith, length, take, get_or, append-nil, map, replicate, length-append, append_assoc, add-zero, zero-add, suc-add}
+use Rattle.std.proofs.Common.{◌≡◌, ◌≢◌, ℕ, zero, suc, ◌+◌, ◌-◌, ◌*◌, ◌/◌, ◌%◌, ◌^◌, ◌<◌, ◌≤◌, ⊎_elim, Bool, false, true≢false, cond, eqb, List, [], ◌∷◌, ◌++◌, refl, sym, ap, ◌∙◌, subst, arith, length, take, get_or, append-nil, map, replicate, length-append, append_assoc, add-zero, zero-add, suc-add}
 use Rattle.std.specs.Int.{bit_at}
 use Rattle.std.specs.List.{flat_map, range_with_len}
 use Rattle.std.specs.Simd.Lanes.{mask_l}
@@ -12,7 +12,7 @@ use Rattle.std.proofs.lemmas.Simd.{bit_mask_l, map-map}
 use lib.Lanes.{sel_l, chunk}
 use Rattle.std.proofs.Math.Seq.{take-append_seam}
 use Rattle.cesu8_bytes.specs.Puts.{WritesAt}
-use Rattle.cesu8_bytes.proofs.lists.Stored.{first_written, written_behind}
+use Rattle.cesu8_bytes.proofs.lists.Stored.{first_written, written_after}
 use Rattle.cesu8_bytes.proofs.vectors.Loads.{loaded}
 use Rattle.std.proofs.Math.Nat.{div-le_self}
 use Rattle.cesu8_text.specs.Encoding.{Flavor}
@@ -122,7 +122,7 @@ module _ (pack : Bool → ℕ → List ℕ) (word : ℕ) (fits : word < 2 ^ 64) 
       let here : 0 + k ≡ k = zero-add k in
       subst (λ bs. WritesAt bs end old new last)
       (ap (λ n. flat_map packs (range_with_len 0 k) ++ flat_map packs (range_with_len n size)) (sym here) ∙ sym (range_split packs 0 k size))
-      (written_behind (flat_map packs (range_with_len 0 k)) (flat_map packs (range_with_len k size)) old mid new end middle last before
+      (written_after (flat_map packs (range_with_len 0 k)) (flat_map packs (range_with_len k size)) old mid new end middle last before
       (subst (λ bs. WritesAt bs middle mid new last) are store))
 
 -- ---- windows that are packed

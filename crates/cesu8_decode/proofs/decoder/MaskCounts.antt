@@ -10,7 +10,7 @@ use Rattle.std.proofs.lemmas.Simd.{get_or-chunk, length-chunk}
 use lib.Lanes.{mask_l, chunk}
 use Rattle.cesu8_text.specs.Encoding.{Flavor}
 use Rattle.cesu8_bytes.specs.Pairs.{null_at}
-use Rattle.cesu8_bytes.proofs.vectors.Counts.{bits_behind}
+use Rattle.cesu8_bytes.proofs.vectors.Counts.{bits_after}
 use Rattle.cesu8_decode.specs.DecodedOffsets.{one_at, two_at, three_at, pair_at, first_width_by, saved, saved_between, total_saved}
 use Rattle.cesu8_decode.specs.Masks.{AreMasks, is_other_at, is_two_at, is_three_at, is_pair_at, is_null_at}
 use Rattle.cesu8_decode.specs.declared.lanes.masks.Masks.{Masks}
@@ -91,7 +91,7 @@ bits_count : (test : ℕ → Bool) (k n mask : ℕ) → mask ≡ mask_l (map tes
     count_ones (mask / 2 ^ k) ≡ count_by test (range_with_len k n)
 bits_count test k n mask is =
     let long = length-range_with_len 0 (k + n) in
-    bits_behind test (range_with_len 0 (k + n)) k mask (omega arith) is
+    bits_after test (range_with_len 0 (k + n)) k mask (omega arith) is
     ∙ ap (count_by test) (later_range 0 k n ∙ ap (λ i. range_with_len i n) (zero-add k))
 
 -- The masks give what n offsets save, after k others.

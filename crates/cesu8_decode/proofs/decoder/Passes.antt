@@ -23,12 +23,12 @@ use Rattle.cesu8_decode.proofs.decoder.WindowEnds.{none_in_window}
 
 -- The state of a pass that has read some bytes and was not stopped.
 abbrev pub pass_at : (read end : ℕ) → Pass
-pass_at read end = record { read = read; end = end; is_refused = false }
+pass_at read end = record { read = read; end = end; is_rejected = false }
 
 -- What is written can follow any text.
-after_other_text : (f : Flavor) (which : Strictness) (window text old new : List ℕ) (at n : ℕ) (is_refused : Bool) →
-    IsDecoded f which window at n old new is_refused → IsDecoded f which window at n (text ++ old) (text ++ new) is_refused
-after_other_text f which window text old new at n is_refused is = record {
+after_other_text : (f : Flavor) (which : Strictness) (window text old new : List ℕ) (at n : ℕ) (is_rejected : Bool) →
+    IsDecoded f which window at n old new is_rejected → IsDecoded f which window at n (text ++ old) (text ++ new) is_rejected
+after_other_text f which window text old new at n is_rejected is = record {
   bytes = λ none. ap (λ bs. text ++ bs) (is.bytes none) ∙ sym (append_assoc text old _);
   refused = is.refused;
   lossy = is.lossy;
@@ -41,8 +41,8 @@ at_start f bytes = record { within = omega arith; boundary = boundary_of_zeros f
 
 module _ (f : Flavor) (which : Strictness) (bytes : List ℕ) where
   -- A state of the pass continues from itself: nothing is read or written.
-  pub goes_nowhere : (pass : Pass) (out : List ℕ) → (pass.is_refused ≡ false → IsPass f bytes pass.read) → pass.read ≤ length bytes →
-      pass.is_refused ≡ false → pass.end ≤ length out → GoesOn f which bytes pass pass out out
+  pub goes_nowhere : (pass : Pass) (out : List ℕ) → (pass.is_rejected ≡ false → IsPass f bytes pass.read) → pass.read ≤ length bytes →
+      pass.is_rejected ≡ false → pass.end ≤ length out → GoesOn f which bytes pass pass out out
   goes_nowhere pass out is within fine inside = record {
     pass = is;
     within = (omega arith, within);
@@ -54,7 +54,7 @@ module _ (f : Flavor) (which : Strictness) (bytes : List ℕ) where
 
   -- If the pass goes on from one state to a second, and from there to a third, it goes on from the
   -- first to the third.
-  pub goes_further : (before between after : Pass) (old mid new : List ℕ) → GoesOn f which bytes before between old mid → between.is_refused ≡ false →
+  pub goes_further : (before between after : Pass) (old mid new : List ℕ) → GoesOn f which bytes before between old mid → between.is_rejected ≡ false →
       GoesOn f which bytes between after mid new → GoesOn f which bytes before after old new
   goes_further before between after old mid new first fine next = record {
     pass = next.pass;
@@ -68,36 +68,36 @@ module _ (f : Flavor) (which : Strictness) (bytes : List ℕ) where
 
   -- The pass continues by what is written for n bytes of a window.
   pub goes_on_by : (before after : Pass) (window old new : List ℕ) (p n : ℕ) → after.read ≡ before.read + n → after.read ≤ length bytes →
-      (after.is_refused ≡ false → IsPass f bytes after.read) → Agree window (window_of bytes) p before.read (n + 10) →
-      WritesDecoded f which window p n before.end old new after.end after.is_refused → after.end ≤ length new →
+      (after.is_rejected ≡ false → IsPass f bytes after.read) → Agree window (window_of bytes) p before.read (n + 10) →
+      WritesDecoded f which window p n before.end old new after.end after.is_rejected → after.end ≤ length new →
       GoesOn f which bytes before after old new
   goes_on_by before after window old new p n read_is inside is agree writes fits = record {
     pass = is;
     within = (omega (arith, read_is), inside);
     text = λ start text so_far.
-        subst (λ m. IsDecoded f which (window_of bytes) 0 m start (text ++ take after.end new) after.is_refused) (sym read_is)
-        (more_decoded f which (window_of bytes) start (text ++ take before.end old) (text ++ take after.end new) before.read n after.is_refused so_far
-        (after_other_text f which (window_of bytes) text _ _ before.read n after.is_refused
-        (decoded_in f which window (window_of bytes) _ _ p before.read n after.is_refused agree writes.text)));
+        subst (λ m. IsDecoded f which (window_of bytes) 0 m start (text ++ take after.end new) after.is_rejected) (sym read_is)
+        (more_decoded f which (window_of bytes) start (text ++ take before.end old) (text ++ take after.end new) before.read n after.is_rejected so_far
+        (after_other_text f which (window_of bytes) text _ _ before.read n after.is_rejected
+        (decoded_in f which window (window_of bytes) _ _ p before.read n after.is_rejected agree writes.text)));
     end = omega (arith, writes.end, most_of_more which before.read n, ap (most_written which) read_is);
     inside = fits;
     len = writes.len;
   }
 
   -- A pass goes on by a window of the bytes themselves.
-  pub window_goes_on : (before pass : Pass) (old mid new : List ℕ) (n end : ℕ) (is_refused : Bool) → GoesOn f which bytes before pass old mid →
-      pass.is_refused ≡ false → pass.read + n ≤ length bytes → is_boundary_at f (window_of bytes) (pass.read + n) ≡ true →
-      WritesDecoded f which (window_of bytes) pass.read n pass.end mid new end is_refused → end ≤ length new →
-      GoesOn f which bytes before (record { read = pass.read + n; end = end; is_refused = is_refused }) old new
-  window_goes_on before pass old mid new n end is_refused so_far fine inside boundary writes room =
+  pub window_goes_on : (before pass : Pass) (old mid new : List ℕ) (n end : ℕ) (is_rejected : Bool) → GoesOn f which bytes before pass old mid →
+      pass.is_rejected ≡ false → pass.read + n ≤ length bytes → is_boundary_at f (window_of bytes) (pass.read + n) ≡ true →
+      WritesDecoded f which (window_of bytes) pass.read n pass.end mid new end is_rejected → end ≤ length new →
+      GoesOn f which bytes before (record { read = pass.read + n; end = end; is_rejected = is_rejected }) old new
+  window_goes_on before pass old mid new n end is_rejected so_far fine inside boundary writes room =
       goes_further before pass _ old mid new so_far fine
       (goes_on_by pass _ (window_of bytes) mid new pass.read n refl inside (λ _. record { within = inside; boundary = boundary }) (λ k small. refl) writes room)
 
   -- A pass that starts with an empty buffer writes the text of the bytes that it reads.
-  pub reads_on : (before after : Pass) (old new start text : List ℕ) (is_refused : Bool) → GoesOn f which bytes before after old new → before.end ≡ 0 →
-      after.is_refused ≡ is_refused → IsDecoded f which (window_of bytes) 0 before.read start text false →
-      IsDecoded f which (window_of bytes) 0 after.read start (text ++ take after.end new) is_refused
-  reads_on before after old new start text is_refused more empty refused so_far = grind (arith, append-nil)
+  pub reads_on : (before after : Pass) (old new start text : List ℕ) (is_rejected : Bool) → GoesOn f which bytes before after old new → before.end ≡ 0 →
+      after.is_rejected ≡ is_rejected → IsDecoded f which (window_of bytes) 0 before.read start text false →
+      IsDecoded f which (window_of bytes) 0 after.read start (text ++ take after.end new) is_rejected
+  reads_on before after old new start text is_rejected more empty refused so_far = grind (arith, append-nil)
 
 -- A text that is written is the result of decoding that does not fail.
 pub reads_text : {E : Type 0} (f : Flavor) (which : Strictness) (bytes old new : List ℕ) (end : ℕ) → WritesText f which bytes end old new →
@@ -106,9 +106,9 @@ reads_text f which bytes old new end writes (Ok len) ok = rw ok.1 (record { text
 reads_text f which bytes old new end writes (Err refusal) refused = absurd (refused (λ _. refl))
 
 -- The text of all bytes is written, or strict decoding rejects one of them.
-pub writes_reading : {E : Type 0} (f : Flavor) (which : Strictness) (bytes old new : List ℕ) (n end : ℕ) (is_refused : Bool) →
-    IsDecoded f which (window_of bytes) 0 n [] (take end new) is_refused → n ≤ length bytes → (is_refused ≡ false → n ≡ length bytes) →
-    end ≤ most_written which n → length new ≡ length old → (result : Result ℕ E) → OkIff result (which ≡ Strict → is_refused ≡ false) end →
+pub writes_reading : {E : Type 0} (f : Flavor) (which : Strictness) (bytes old new : List ℕ) (n end : ℕ) (is_rejected : Bool) →
+    IsDecoded f which (window_of bytes) 0 n [] (take end new) is_rejected → n ≤ length bytes → (is_rejected ≡ false → n ≡ length bytes) →
+    end ≤ most_written which n → length new ≡ length old → (result : Result ℕ E) → OkIff result (which ≡ Strict → is_rejected ≡ false) end →
     WritesReading f which bytes result old new
 writes_reading f which bytes old new n end true is inside all fits long (Ok len) ok =
     absurd (true≢false (ok.0 (refused_decoded f which bytes [] _ n is inside).0))

@@ -25,7 +25,7 @@ const CLEARED_AT_ONCE: usize = 4096;
 pub fn append_chunks<F: Flavor, S: Reading>(
     bytes: &[u8],
     before: Vec<u8>,
-) -> Result<Vec<u8>, S::Refusal>
+) -> Result<Vec<u8>, S::Error>
     requires { vec_len before + most_of_text F.flavor S.which bytes.now ≤ vec_capacity before }
     ensures { AppendsReading F.flavor S.which bytes.now before result }
 {
@@ -33,7 +33,7 @@ pub fn append_chunks<F: Flavor, S: Reading>(
     let mut read = 0;
     while read < bytes.len() {
         let pass = append_next::<F, S>(bytes, read, &mut text);
-        S::unless_refused(pass.is_refused, ())?;
+        S::unless_rejected(pass.is_rejected, ())?;
         read = pass.read;
     }
     Ok(text)
@@ -45,7 +45,7 @@ pub fn append_chunks<F: Flavor, S: Reading>(
 #[inline(always)]
 fn append_next<F: Flavor, S: Reading>(bytes: &[u8], read: usize, out: &mut Vec<u8>) -> Pass
     requires pass { IsPass F.flavor bytes.now read × (read < length bytes.now) }
-    requires fits { (after : Pass) (old : List ℕ) (new : List ℕ) → after.is_refused ≡ false
+    requires fits { (after : Pass) (old : List ℕ) (new : List ℕ) → after.is_rejected ≡ false
         → GoesOn F.flavor S.which bytes.now (pass_from read) after old new
         → vec_len out.old + after.end ≤ vec_capacity out.old }
     ensures next { AppendsNext F.flavor S.which bytes.now read result out.old out.new }
@@ -56,7 +56,7 @@ fn append_next<F: Flavor, S: Reading>(bytes: &[u8], read: usize, out: &mut Vec<u
     if spare < SMALL_STRICT {
         let mut written = [0; SMALL_STRICT];
         let pass = write_windows::<F, S>(bytes, read, &mut written);
-        if !pass.is_refused {
+        if !pass.is_rejected {
             append(&written[..pass.end], out);
         }
         return pass;

@@ -9,7 +9,7 @@
 ghost use Rattle.std.specs.Prelude.{◌+◌, ◌≤◌, ◌<◌, length};
 ghost use Rattle.cesu8_text.specs.Reading.{reading};
 ghost use Rattle.cesu8_bytes.specs.declared.strictness.Strictness.TheVariants.{Strict, Lossy};
-ghost use Rattle.cesu8_decode.specs.Decoding.{room_for, room_for_few};
+ghost use Rattle.cesu8_decode.specs.Decoding.{room_for, room_for_short};
 ghost use Rattle.cesu8_decode.specs.Following.{Unchanged as AllUnchanged};
 ghost use Rattle.cesu8_decode.specs.Prefixes.{IsLongestPrefix, IsProperPrefix};
 ghost use Rattle.cesu8_decode.specs.PutReadings.{PutsReading};
@@ -19,16 +19,17 @@ use crate::error::WriteError;
 use crate::lanes::character_set::Unchanged;
 use crate::lengths::lossy_len;
 use crate::needs_conversion::begins_changed;
-use crate::pass::few::{FEW_LOSSY, FEW_STRICT, write_few};
+use crate::pass::short::{SHORT_LOSSY, SHORT_STRICT, write_short};
 use crate::pass::windows::{
     LARGE_LOSSY, LARGE_STRICT, LARGEST_LOSSY, SMALL_LOSSY, SMALL_STRICT, write_all,
 };
 use crate::prefix::window::prefix_by_window;
 use crate::prefix::{UnchangedPrefix, may_be_crossed};
-use crate::strategy::{FEW_BYTES, Strategy, are_few, strategy_of};
+use crate::strategy::{Strategy, strategy_of};
 use crate::valid::is_ill_formed;
 use cesu8_bytes::flavor::Flavor;
-use cesu8_bytes::lanes::short::copy_short;
+use cesu8_bytes::lanes::class::LANES;
+use cesu8_bytes::lanes::short::{are_short, copy_short};
 use cesu8_bytes::strictness::{LossyReading, Reading, StrictReading, Strictness};
 use cesu8_bytes::writing::copies::{NoRoom, copy_to_slice};
 
@@ -45,11 +46,11 @@ pub fn put_strictly<F: Flavor>(
 {
     // The prefix is not all of the bytes. So if no character needs conversion, a byte is
     // ill-formed. The mask `changed` is also 0 if a byte is ill-formed.
-    if are_few(bytes) {
+    if are_short(bytes) {
         if prefix.changed == 0 {
             return Err(WriteError::NoText);
         }
-        return put_few::<F, StrictReading, FEW_STRICT>(bytes, prefix, buf);
+        return put_short::<F, StrictReading, SHORT_STRICT>(bytes, prefix, buf);
     }
     put_after_prefix::<F>(bytes, prefix.len, buf)
 }
@@ -98,7 +99,7 @@ pub fn put_lossily<F: Flavor>(
     ensures { PutsReading F.flavor Lossy bytes.now result buf.old buf.new }
 {
     match strategy_of(bytes) {
-        Strategy::Few => put_few::<F, LossyReading, FEW_LOSSY>(bytes, prefix, buf),
+        Strategy::Short => put_short::<F, LossyReading, SHORT_LOSSY>(bytes, prefix, buf),
         Strategy::SmallArray => put_by_array::<F, LossyReading, SMALL_LOSSY>(bytes, buf),
         Strategy::LargeArray => put_by_array::<F, LossyReading, LARGE_LOSSY>(bytes, buf),
         Strategy::LargestArray => put_by_array::<F, LossyReading, LARGEST_LOSSY>(bytes, buf),
@@ -112,13 +113,7 @@ fn put_by_strategy<F: Flavor>(bytes: &[u8], buf: &mut [u8]) -> Result<usize, Wri
     ensures { PutsReading F.flavor Strict bytes.now result buf.old buf.new }
 {
     match strategy_of(bytes) {
-        Strategy::Few => {
-            let prefix = prefix_by_window::<F>(bytes);
-            if prefix.len == bytes.len() {
-                return copy_to_slice(bytes, buf).map_err(WriteError::NoRoom);
-            }
-            put_few::<F, StrictReading, FEW_STRICT>(bytes, prefix, buf)
-        }
+        Strategy::Short => put_rest::<F>(bytes, buf),
         // Input that ends within a character is rejected before all of it is decoded.
         _ if may_be_crossed::<Unchanged>(bytes, bytes.len()) => Err(WriteError::NoText),
         Strategy::SmallArray => put_by_array::<F, StrictReading, SMALL_STRICT>(bytes, buf),
@@ -127,21 +122,35 @@ fn put_by_strategy<F: Flavor>(bytes: &[u8], buf: &mut [u8]) -> Result<usize, Wri
     }
 }
 
+/// Writes the strictly decoded text of the last bytes, at most 64. As part of its caller, the
+/// compiler would store each result and load it again.
+#[inline(always)]
+fn put_rest<F: Flavor>(bytes: &[u8], buf: &mut [u8]) -> Result<usize, WriteError>
+    requires { length bytes.now ≤ LANES }
+    ensures { PutsReading F.flavor Strict bytes.now result buf.old buf.new }
+{
+    let prefix = prefix_by_window::<F>(bytes);
+    if prefix.len == bytes.len() {
+        return copy_to_slice(bytes, buf).map_err(WriteError::NoRoom);
+    }
+    put_short::<F, StrictReading, SHORT_STRICT>(bytes, prefix, buf)
+}
+
 /// Writes the decoded text of at most 64 bytes to an array, and copies it from there. `prefix` is
 /// their unchanged prefix, which is not all of them.
 #[inline(always)]
-fn put_few<F: Flavor, S: Reading, const WRITTEN: usize>(
+fn put_short<F: Flavor, S: Reading, const WRITTEN: usize>(
     bytes: &[u8],
     prefix: UnchangedPrefix,
     buf: &mut [u8],
 ) -> Result<usize, WriteError>
-    requires few { length bytes.now ≤ FEW_BYTES }
+    requires short { length bytes.now ≤ LANES }
     requires prefix { IsProperPrefix F.flavor bytes.now prefix }
-    requires room { (room_for_few S.which ≤ WRITTEN) × (WRITTEN ≤ FEW_LOSSY) }
+    requires room { (room_for_short S.which ≤ WRITTEN) × (WRITTEN ≤ SHORT_LOSSY) }
     ensures { PutsReading F.flavor S.which bytes.now result buf.old buf.new }
 {
     let mut written = [0; WRITTEN];
-    let Ok(end) = write_few::<F, S>(bytes, prefix, &mut written) else {
+    let Ok(end) = write_short::<F, S>(bytes, prefix, &mut written) else {
         return Err(WriteError::NoText);
     };
     copy_to_slice(&written[..end], buf).map_err(WriteError::NoRoom)

@@ -16,14 +16,15 @@ ghost use Rattle.cesu8_decode.specs.Prefixes.{IsLongestPrefix, IsProperPrefix};
 use super::chunks::append_chunks;
 use crate::lanes::character_set::Unchanged;
 use crate::needs_conversion::{changes, first_eight};
-use crate::pass::few::{FEW_STRICT, write_few};
+use crate::pass::short::{SHORT_STRICT, write_short};
 use crate::prefix::window::prefix_by_window;
 use crate::prefix::{UnchangedPrefix, longest_prefix, may_be_crossed};
-use crate::strategy::{FEW_BYTES, are_few};
 use cesu8_bytes::flavor::Flavor;
+use cesu8_bytes::lanes::class::LANES;
+use cesu8_bytes::lanes::short::are_short;
 use cesu8_bytes::pairs::{PAIR, PAIR_READ, utf8_of_pair};
 use cesu8_bytes::strictness::{NoText, StrictReading};
-use cesu8_bytes::writing::copies::{append, append_few, append_front};
+use cesu8_bytes::writing::copies::{append, append_prefix, append_short};
 
 /// If the first unchanged run is shorter than this, the rest is decoded window by window, unless at
 /// most 64 bytes are left: windows are then faster.
@@ -38,7 +39,7 @@ const NEXT_RUN: usize = 64;
 /// rest window by window. It is not inlined, so that at most 64 bytes have few registers to save.
 #[inline(never)]
 pub fn append_many<F: Flavor>(bytes: &[u8], len: usize, before: Vec<u8>) -> Result<Vec<u8>, NoText>
-    requires many { FEW_BYTES < length bytes.now }
+    requires many { LANES < length bytes.now }
     requires prefix { IsLongestPrefix AllUnchanged F.flavor bytes.now len }
     requires room { vec_len before + length bytes.now ≤ vec_capacity before }
     ensures { AppendsReading F.flavor Strict bytes.now before result }
@@ -50,7 +51,7 @@ pub fn append_many<F: Flavor>(bytes: &[u8], len: usize, before: Vec<u8>) -> Resu
     while len < rest.len() {
         let is_long = least <= len;
         rest = append_to_next::<F>(rest, len, &mut text)?;
-        if are_few(rest) {
+        if are_short(rest) {
             return append_last::<F>(rest, text);
         }
         if !is_long {
@@ -70,36 +71,36 @@ pub fn append_many<F: Flavor>(bytes: &[u8], len: usize, before: Vec<u8>) -> Resu
 /// Appends the strictly decoded text of the last bytes, at most 64.
 #[inline(always)]
 fn append_last<F: Flavor>(bytes: &[u8], before: Vec<u8>) -> Result<Vec<u8>, NoText>
-    requires few { length bytes.now ≤ FEW_BYTES }
+    requires short { length bytes.now ≤ LANES }
     requires room { vec_len before + length bytes.now ≤ vec_capacity before }
     ensures { AppendsReading F.flavor Strict bytes.now before result }
 {
     let prefix = prefix_by_window::<F>(bytes);
     if prefix.len < bytes.len() {
-        return append_few_strictly::<F>(bytes, prefix, before);
+        return append_short_strictly::<F>(bytes, prefix, before);
     }
     let mut text = before;
-    append_few(bytes, &mut text);
+    append_short(bytes, &mut text);
     Ok(text)
 }
 
 /// Appends the strictly decoded text of at most 64 bytes, which is written to an array first.
 /// `prefix` is their unchanged prefix, which is not all of them.
 #[inline(always)]
-pub fn append_few_strictly<F: Flavor>(
+pub fn append_short_strictly<F: Flavor>(
     bytes: &[u8],
     prefix: UnchangedPrefix,
     before: Vec<u8>,
 ) -> Result<Vec<u8>, NoText>
-    requires few { length bytes.now ≤ FEW_BYTES }
+    requires short { length bytes.now ≤ LANES }
     requires prefix { IsProperPrefix F.flavor bytes.now prefix }
     requires room { vec_len before + length bytes.now ≤ vec_capacity before }
     ensures { AppendsReading F.flavor Strict bytes.now before result }
 {
-    let mut written = [0; FEW_STRICT];
-    let end = write_few::<F, StrictReading>(bytes, prefix, &mut written)?;
+    let mut written = [0; SHORT_STRICT];
+    let end = write_short::<F, StrictReading>(bytes, prefix, &mut written)?;
     let mut text = before;
-    append_few(&written[..end], &mut text);
+    append_short(&written[..end], &mut text);
     Ok(text)
 }
 
@@ -112,7 +113,7 @@ fn append_to_next<'a, F: Flavor>(
     len: usize,
     out: &mut Vec<u8>,
 ) -> Result<&'a [u8], NoText>
-    requires many { FEW_BYTES < length bytes.now }
+    requires many { LANES < length bytes.now }
     requires prefix { IsLongestPrefix AllUnchanged F.flavor bytes.now len × (len < length bytes.now) }
     requires room { vec_len out.old + length bytes.now ≤ vec_capacity out.old }
     ensures none { OnErr result (HasNoStrictReading F.flavor bytes.now) }
@@ -128,7 +129,7 @@ fn append_to_next<'a, F: Flavor>(
     if !changes::<F>(first) {
         return Err(NoText);
     }
-    append_front(bytes, len, out);
+    append_prefix(bytes, len, out);
     if first[0] == 0xC0 {
         append(&[0], out);
         return Ok(&after[2..]);

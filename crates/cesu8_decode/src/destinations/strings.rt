@@ -13,15 +13,17 @@ ghost use Rattle.cesu8_decode.specs.Following.{Unchanged};
 ghost use Rattle.cesu8_decode.specs.Prefixes.{IsLongestPrefix, IsProperPrefix};
 
 use super::chunks::append_chunks;
-use super::strict_append::{append_few_strictly, append_many};
+use super::strict_append::{append_many, append_short_strictly};
 use crate::lengths::lossy_len;
 use crate::needs_conversion::may_lead_changed;
-use crate::pass::few::{FEW_LOSSY, write_few};
+use crate::pass::short::{SHORT_LOSSY, write_short};
 use crate::pass::windows::{LARGE_LOSSY, LARGEST_LOSSY, SMALL_LOSSY, write_all};
 use crate::prefix::UnchangedPrefix;
-use crate::strategy::{FEW_BYTES, LARGEST_ARRAY, Strategy, are_few, strategy_of};
+use crate::strategy::{LARGEST_ARRAY, Strategy, strategy_of};
 use cesu8_bytes::BLOCK;
 use cesu8_bytes::flavor::Flavor;
+use cesu8_bytes::lanes::class::LANES;
+use cesu8_bytes::lanes::short::are_short;
 use cesu8_bytes::strictness::{LossyReading, NoText};
 use cesu8_bytes::writing::copies::{append, copy};
 use std::alloc::{AllocError, Global};
@@ -41,11 +43,11 @@ pub fn write_strictly<F: Flavor>(
     // The prefix is not all of the bytes. So a character that needs conversion follows it, or else
     // a byte is ill-formed. Of at most 64 bytes the mask `changed` is 0 exactly if one is
     // ill-formed.
-    if are_few(bytes) {
+    if are_short(bytes) {
         if prefix.changed == 0 {
             return Err(NoText);
         }
-        return append_few_strictly::<F>(bytes, prefix, empty);
+        return append_short_strictly::<F>(bytes, prefix, empty);
     }
     if !may_lead_changed(bytes[prefix.len]) {
         return Err(NoText);
@@ -58,7 +60,7 @@ pub fn write_strictly<F: Flavor>(
 /// result slots: a function zeroes them first, even if it is inlined.
 #[inline(always)]
 fn write_many<F: Flavor>(bytes: &[u8], prefix: usize, empty: Vec<u8>) -> Result<Vec<u8>, NoText>
-    requires many { FEW_BYTES < length bytes.now }
+    requires many { LANES < length bytes.now }
     requires prefix { IsLongestPrefix Unchanged F.flavor bytes.now prefix }
     requires empty { (empty.items ≡ []) × (length bytes.now ≤ vec_capacity empty) }
     ensures { AppendsReading F.flavor Strict bytes.now empty result }
@@ -77,7 +79,7 @@ pub fn build_lossily<F: Flavor>(
     ensures { BuildsReading F.flavor bytes.now result }
 {
     match strategy_of(bytes) {
-        Strategy::Few => build_few::<F>(alloc, bytes, prefix),
+        Strategy::Short => build_short::<F>(alloc, bytes, prefix),
         Strategy::SmallArray => build_by_array::<F, SMALL_LOSSY>(alloc, bytes),
         Strategy::LargeArray => build_by_array::<F, LARGE_LOSSY>(alloc, bytes),
         Strategy::LargestArray => build_by_array::<F, LARGEST_LOSSY>(alloc, bytes),
@@ -88,17 +90,17 @@ pub fn build_lossily<F: Flavor>(
 /// Returns the lossily decoded text of at most 64 bytes. It is not inlined, so that only a call
 /// clears the array.
 #[inline(never)]
-fn build_few<F: Flavor>(
+fn build_short<F: Flavor>(
     alloc: Global,
     bytes: &[u8],
     prefix: UnchangedPrefix,
 ) -> Result<Vec<u8>, AllocError>
-    requires few { length bytes.now ≤ FEW_BYTES }
+    requires short { length bytes.now ≤ LANES }
     requires prefix { IsProperPrefix F.flavor bytes.now prefix }
     ensures { BuildsReading F.flavor bytes.now result }
 {
-    let mut written = [0; FEW_LOSSY];
-    let Ok(end) = write_few::<F, LossyReading>(bytes, prefix, &mut written);
+    let mut written = [0; SHORT_LOSSY];
+    let Ok(end) = write_short::<F, LossyReading>(bytes, prefix, &mut written);
     copy(alloc, &written[..end])
 }
 

@@ -47,7 +47,7 @@ pub fn window_at<F: Flavor>(bytes: &[u8], at: usize, count: usize) -> Window
 /// Returns the window of at most 64 bytes, which are the whole input. Up to 32 bytes need only a
 /// vector of half the length.
 #[inline(always)]
-pub fn window_of_few<F: Flavor>(bytes: &[u8]) -> Window
+pub fn window_of_short<F: Flavor>(bytes: &[u8]) -> Window
     requires { length bytes.now ≤ LANES }
     ensures window { (is : IsWindow F.flavor bytes.now 0 result) × (is.n ≡ length bytes.now) }
     ensures len { result.len ≡ length bytes.now }

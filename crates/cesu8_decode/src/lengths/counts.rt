@@ -18,7 +18,7 @@ use std::simd::prelude::*;
 
 /// Returns what at most 64 bytes save.
 #[inline(always)]
-pub fn saved_by_few<F: Flavor>(bytes: &[u8]) -> usize
+pub fn saved_in_short<F: Flavor>(bytes: &[u8]) -> usize
     requires { length bytes.now ≤ LANES }
     ensures { result ≡ total_saved F.flavor bytes.now }
 {

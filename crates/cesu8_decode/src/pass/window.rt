@@ -31,7 +31,7 @@ pub const READ_AFTER: usize = LANES - STEP;
 pub struct Written {
     pub read: usize,
     pub end: usize,
-    pub is_refused: bool,
+    pub is_rejected: bool,
     /// Whether the window has no event, so that its bytes were copied.
     pub is_unchanged: bool,
 }
@@ -52,25 +52,25 @@ pub fn write_window<F: Flavor, S: Reading>(
         × ((i : ℕ) → at + count ≤ i → slice_index bytes.now i ≡ 0)) }
     requires room { end + most_written S.which LANES + STORED_AFTER ≤ length out.old }
     ensures written { WritesDecoded F.flavor S.which (window_of bytes.now) at result.read
-        end out.old out.new result.end result.is_refused }
+        end out.old out.new result.end result.is_rejected }
     ensures boundary { is_boundary_at F.flavor (window_of bytes.now) (at + result.read) ≡ true }
     ensures count { (count ≤ result.read) × (result.read ≤ count + READ_AFTER) × (result.read ≤ LANES) }
     ensures last { slice_index bytes.now (at + count) ≡ 0 → result.read ≡ count }
-    ensures unchanged { result.is_unchanged ≡ true → result.is_refused ≡ false }
+    ensures unchanged { result.is_unchanged ≡ true → result.is_rejected ≡ false }
 {
     let window = window_at::<F>(bytes, at, count);
     if window.ill_formed != 0 && matches!(S::strictness(), Strictness::Strict) {
         return Written {
             read: window.len,
             end,
-            is_refused: true,
+            is_rejected: true,
             is_unchanged: false,
         };
     }
     Written {
         read: window.len,
         end: write_events::<F, S>(bytes, at, window, out, end),
-        is_refused: false,
+        is_rejected: false,
         is_unchanged: window.ill_formed | window.pairs | window.nulls == 0,
     }
 }

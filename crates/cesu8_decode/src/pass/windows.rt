@@ -12,10 +12,10 @@ use super::window::{READ_AFTER, ROOM, WIDEST, write_window};
 use crate::lanes::character_set::Unchanged;
 use crate::lanes::windows::STEP;
 use crate::prefix::longest_prefix;
-use crate::strategy::{LARGE_ARRAY, LARGEST_ARRAY, SMALL_ARRAY, are_few};
+use crate::strategy::{LARGE_ARRAY, LARGEST_ARRAY, SMALL_ARRAY};
 use cesu8_bytes::flavor::Flavor;
 use cesu8_bytes::lanes::class::LANES;
-use cesu8_bytes::lanes::short::copy_short;
+use cesu8_bytes::lanes::short::{are_short, copy_short};
 use cesu8_bytes::pairs::{PAIR, PAIR_READ, PAIR_UTF8, is_pair, utf8_of_pair};
 use cesu8_bytes::strictness::Reading;
 use cesu8_bytes::writing::offsets::put;
@@ -49,7 +49,7 @@ const AROUND: usize = BEFORE + IN_PLACE + READ_AFTER + LANES;
 pub struct Pass {
     pub read: usize,
     pub end: usize,
-    pub is_refused: bool,
+    pub is_rejected: bool,
 }
 
 /// Continues the pass from a character boundary, as long as the buffer has space for the text of
@@ -62,12 +62,12 @@ pub fn write_windows<F: Flavor, S: Reading>(bytes: &[u8], read: usize, out: &mut
     ensures more { GoesOn F.flavor S.which bytes.now (pass_from read) result out.old out.new }
     ensures some { read < length bytes.now → read < result.read }
     ensures all { read ≡ 0 → room_for S.which (length bytes.now) ≤ length out.old
-        → result.is_refused ≡ false → result.read ≡ length bytes.now }
+        → result.is_rejected ≡ false → result.read ≡ length bytes.now }
 {
     let limit = out.len() - ROOM;
     let pairs = write_pairs::<F, S>(bytes, read, limit, out);
     let pass = write_in_place::<F, S>(bytes, pairs, limit, out);
-    if pass.is_refused || pass.end > limit || pass.read == bytes.len() {
+    if pass.is_rejected || pass.end > limit || pass.read == bytes.len() {
         return pass;
     }
     write_last::<F, S>(bytes, pass, limit, out)
@@ -77,12 +77,12 @@ pub fn write_windows<F: Flavor, S: Reading>(bytes: &[u8], read: usize, out: &mut
 /// error if decoding is strict and a byte is ill-formed.
 #[inline(always)]
 #[tactic(auto, using(crate::proofs::decoder::Passes::at_start))]
-pub fn write_all<F: Flavor, S: Reading>(bytes: &[u8], out: &mut [u8]) -> Result<usize, S::Refusal>
+pub fn write_all<F: Flavor, S: Reading>(bytes: &[u8], out: &mut [u8]) -> Result<usize, S::Error>
     requires { room_for S.which (length bytes.now) ≤ length out.old }
     ensures { WritesReading F.flavor S.which bytes.now result out.old out.new }
 {
     let pass = write_windows::<F, S>(bytes, 0, out);
-    S::unless_refused(pass.is_refused, pass.end)
+    S::unless_rejected(pass.is_rejected, pass.end)
 }
 
 /// Writes the surrogate pairs that come next, one after another. If the text is mostly surrogate
@@ -97,7 +97,7 @@ fn write_pairs<F: Flavor, S: Reading>(
     requires pass { IsPass F.flavor bytes.now read }
     requires room { limit + ROOM ≤ length out.old }
     ensures more { GoesOn F.flavor S.which bytes.now (pass_from read) result out.old out.new }
-    ensures fine { result.is_refused ≡ false }
+    ensures fine { result.is_rejected ≡ false }
 {
     // The loop ends at the last pair that the buffer has space for, so that it need not test the
     // space for each.
@@ -112,7 +112,7 @@ fn write_pairs<F: Flavor, S: Reading>(
     Pass {
         read: at,
         end,
-        is_refused: false,
+        is_rejected: false,
     }
 }
 
@@ -125,22 +125,22 @@ fn write_in_place<F: Flavor, S: Reading>(
     out: &mut [u8],
 ) -> Pass
     requires pass { IsPass F.flavor bytes.now before.read }
-    requires fine { before.is_refused ≡ false }
+    requires fine { before.is_rejected ≡ false }
     requires end { before.end ≤ length out.old }
     requires room { limit + ROOM ≤ length out.old }
     ensures more { GoesOn F.flavor S.which bytes.now before result out.old out.new }
-    ensures fresh { result.read ≡ before.read → result.is_refused ≡ false }
-    ensures last { result.is_refused ≡ false → result.end ≤ limit
+    ensures fresh { result.read ≡ before.read → result.is_rejected ≡ false }
+    ensures last { result.is_rejected ≡ false → result.end ≤ limit
         → length bytes.now < result.read + IN_PLACE }
 {
     let mut pass = before;
     let mut was_unchanged = false;
-    while !pass.is_refused && pass.end <= limit && bytes.len() - pass.read >= IN_PLACE {
+    while !pass.is_rejected && pass.end <= limit && bytes.len() - pass.read >= IN_PLACE {
         let window = write_window::<F, S>(bytes, pass.read, STEP, out, pass.end);
         pass = Pass {
             read: pass.read + window.read,
             end: window.end,
-            is_refused: window.is_refused,
+            is_rejected: window.is_rejected,
         };
         // After two successive windows without an event, a test for a longer unchanged run is
         // faster.
@@ -162,22 +162,22 @@ fn copy_unchanged<F: Flavor, S: Reading>(
     out: &mut [u8],
 ) -> Pass
     requires pass { IsPass F.flavor bytes.now before.read }
-    requires fine { before.is_refused ≡ false }
+    requires fine { before.is_rejected ≡ false }
     requires end { before.end ≤ limit }
     requires room { limit ≤ length out.old }
     ensures more { GoesOn F.flavor S.which bytes.now before result out.old out.new }
-    ensures fine { result.is_refused ≡ false }
+    ensures fine { result.is_rejected ≡ false }
 {
     let rest = &bytes[before.read..];
     let part = &rest[..rest.len().min(limit - before.end)];
-    if are_few(part) {
+    if are_short(part) {
         return before;
     }
     let len = longest_prefix::<F, Unchanged>(part);
     Pass {
         read: before.read + len,
         end: put(&part[..len], out, before.end),
-        is_refused: false,
+        is_rejected: false,
     }
 }
 
@@ -192,25 +192,25 @@ fn write_last<F: Flavor, S: Reading>(
 ) -> Pass
     requires pass { IsPass F.flavor bytes.now before.read × (before.read < length bytes.now) }
     requires last { length bytes.now < before.read + IN_PLACE }
-    requires fine { before.is_refused ≡ false }
+    requires fine { before.is_rejected ≡ false }
     requires end { before.end ≤ limit }
     requires room { limit + ROOM ≤ length out.old }
     ensures more { GoesOn F.flavor S.which bytes.now before result out.old out.new }
     ensures some { before.read < result.read }
-    ensures all { result.is_refused ≡ false → result.end ≤ limit → result.read ≡ length bytes.now }
+    ensures all { result.is_rejected ≡ false → result.end ≤ limit → result.read ≡ length bytes.now }
 {
     let first = before.read.saturating_sub(BEFORE);
     let mut last = [0; AROUND];
     copy_short(&bytes[first..], &mut last);
     let mut pass = before;
-    while !pass.is_refused && pass.end <= limit && pass.read < bytes.len() {
+    while !pass.is_rejected && pass.end <= limit && pass.read < bytes.len() {
         let left = bytes.len() - pass.read;
         let count = if left > LANES { STEP } else { left };
         let window = write_window::<F, S>(&last, pass.read - first, count, out, pass.end);
         pass = Pass {
             read: pass.read + window.read,
             end: window.end,
-            is_refused: window.is_refused,
+            is_rejected: window.is_rejected,
         };
     }
     pass

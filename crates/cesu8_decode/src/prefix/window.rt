@@ -6,9 +6,9 @@
 ghost use Rattle.std.specs.Prelude.{◌≤◌, length};
 ghost use Rattle.cesu8_decode.specs.Prefixes.{IsUnchangedPrefix};
 
-use crate::lanes::windows::window_of_few;
-use crate::strategy::FEW_BYTES;
+use crate::lanes::windows::window_of_short;
 use cesu8_bytes::flavor::Flavor;
+use cesu8_bytes::lanes::class::LANES;
 
 /// The unchanged prefix of some bytes.
 #[derive(Clone, Copy)]
@@ -24,10 +24,10 @@ pub struct UnchangedPrefix {
 /// byte is ill-formed.
 #[inline(always)]
 pub fn prefix_by_window<F: Flavor>(bytes: &[u8]) -> UnchangedPrefix
-    requires { length bytes.now ≤ FEW_BYTES }
+    requires { length bytes.now ≤ LANES }
     ensures { IsUnchangedPrefix F.flavor bytes.now result }
 {
-    let window = window_of_few::<F>(bytes);
+    let window = window_of_short::<F>(bytes);
     let changed = window.pairs | window.nulls;
     let first = (window.ill_formed | changed).trailing_zeros() as usize;
     UnchangedPrefix {

@@ -13,12 +13,12 @@ use super::bytes::lanes::search::any_in_bytes;
 use super::bytes::lengths;
 use super::bytes::strictness::{LossyReading, Reading, StrictReading};
 use super::bytes::utf8::{known_string, known_text};
-use super::bytes::writing::copies::append_few;
+use super::bytes::writing::copies::append_short;
 use super::calls::{self, TooShort, mutf8};
 use super::decode::error::WriteError;
 use super::decode::lanes::character_set::Unchanged;
 use super::decode::modes::{Accepts, EncodingAlone, Lenient, prefix_unless_kept};
-use super::decode::pass::few::{FEW_STRICT, write_few};
+use super::decode::pass::short::{SHORT_STRICT, write_short};
 use super::decode::prefix::{UnchangedPrefix, longest_prefix};
 use super::decode::to_slice::decode_to_slice;
 use super::decode::valid::valid_up_to_other;
@@ -183,12 +183,12 @@ fn strict_few<F: Flavor>(
     bytes: &[u8],
     front: UnchangedPrefix,
 ) -> Result<Cow<'_, str>, DecodingError> {
-    let mut written = [0; FEW_STRICT];
-    let Ok(len) = write_few::<F, StrictReading>(bytes, front, &mut written) else {
+    let mut written = [0; SHORT_STRICT];
+    let Ok(len) = write_short::<F, StrictReading>(bytes, front, &mut written) else {
         return Err(DecodingError(()));
     };
     let mut text = Vec::with_capacity(len);
-    append_few(written.part(..len), &mut text);
+    append_short(written.part(..len), &mut text);
     Ok(Cow::Owned(known_string(text)))
 }
 

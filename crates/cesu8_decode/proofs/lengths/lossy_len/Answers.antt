@@ -7,11 +7,11 @@ use Rattle.cesu8_decode.proofs.decoder.MaskCounts.{saved_in_chunk, saved_next}
 use Rattle.cesu8_decode.proofs.lengths.lossy_len.Goals as goal
 
 pub overflow_sub-result : goal.overflow_sub-result
-overflow_sub-result g c = omega (arith, c.saved_by_few.ensures, lossy_length_by_savings g.F.Flavor.flavor c.args.bytes.now)
+overflow_sub-result g c = omega (arith, c.saved_in_short.ensures, lossy_length_by_savings g.F.Flavor.flavor c.args.bytes.now)
 
-pub returns-then-are_few-clause-some : goal.returns-then-are_few-clause-some
-returns-then-are_few-clause-some g c =
-    omega (arith, c.saved_by_few.ensures, lossy_length_by_savings g.F.Flavor.flavor c.args.bytes.now)
+pub returns-then-are_short-clause-some : goal.returns-then-are_short-clause-some
+returns-then-are_short-clause-some g c =
+    omega (arith, c.saved_in_short.ensures, lossy_length_by_savings g.F.Flavor.flavor c.args.bytes.now)
 
 pub overflow_sub-len : goal.overflow_sub-len
 overflow_sub-len g c =

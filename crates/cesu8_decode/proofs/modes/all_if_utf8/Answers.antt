@@ -5,7 +5,7 @@ use Rattle.std.proofs.lemmas.Bool.{both_ways}
 use Rattle.std.proofs.lemmas.List.{take_rest}
 use Rattle.cesu8_decode.proofs.chunks.Utf8Parts.{after_utf8}
 use Rattle.cesu8_decode.proofs.modes.all_if_utf8.Goals as goal
-use Rattle.cesu8_decode.proofs.modes.all_if_utf8.Goals.{then-are_few, else-are_few}
+use Rattle.cesu8_decode.proofs.modes.all_if_utf8.Goals.{then-are_short, else-are_short}
 
 -- From the start or from the end of a prefix that is UTF-8, the bytes are UTF-8 exactly if all are.
 from_either : (bytes : List ℕ) (n start : ℕ) → n ≤ length bytes → IsUtf8 (take n bytes) → (start ≡ 0) ⊎ (start ≡ n) → IsUtf8 (drop start bytes) ↔ IsUtf8 bytes
@@ -15,15 +15,15 @@ from_either bytes n start within prefix (inr end) = subst (λ k. IsUtf8 (drop k 
 pub returns-then-not-is_utf8_by_parts : goal.returns-then-not-is_utf8_by_parts
 returns-then-not-is_utf8_by_parts c =
     let bytes = c.args.bytes.now in
-    let same = from_either bytes c.args.prefix.len c.if-are_few.start c.requires.0 c.requires.1
-    (elim c.if-are_few.branch [ then-are_few w ↦ inl w.start-is | else-are_few w ↦ inr w.start-is ]) in
+    let same = from_either bytes c.args.prefix.len c.if-are_short.start c.requires.0 c.requires.1
+    (elim c.if-are_short.branch [ then-are_short w ↦ inl w.start-is | else-are_short w ↦ inr w.start-is ]) in
     let tested = rw take_rest at c.is_utf8_by_parts.ensures in
     inr (refl, λ is_utf8. absurd (both_ways _ c.if-not-is_utf8_by_parts.true (tested.1 (same.1 is_utf8))))
 
 pub returns : goal.returns
 returns c =
     let bytes = c.args.bytes.now in
-    let same = from_either bytes c.args.prefix.len c.if-are_few.start c.requires.0 c.requires.1
-    (elim c.if-are_few.branch [ then-are_few w ↦ inl w.start-is | else-are_few w ↦ inr w.start-is ]) in
+    let same = from_either bytes c.args.prefix.len c.if-are_short.start c.requires.0 c.requires.1
+    (elim c.if-are_short.branch [ then-are_short w ↦ inl w.start-is | else-are_short w ↦ inr w.start-is ]) in
     let tested = rw take_rest at c.is_utf8_by_parts.ensures in
     inl (refl, same.0 (tested.0 c.if-not-is_utf8_by_parts.false))

@@ -6,7 +6,7 @@ use Rattle.std.proofs.lemmas.Bool.{leb-false, or_parts}
 use Rattle.std.proofs.lemmas.List.{length-take-le}
 use Rattle.cesu8_text.specs.Encoding.{Flavor}
 use Rattle.cesu8_decode.specs.Following.{CharacterSet, AllFollow, FirstFollow, FollowUpTo, after_fillers, follows_at}
-use Rattle.cesu8_decode.proofs.decoder.ErrorMasks.{ones_follow, first_of_front, stop_in_front}
+use Rattle.cesu8_decode.proofs.decoder.ErrorMasks.{ones_follow, first_of_prefix, stop_in_prefix}
 use Rattle.cesu8_decode.proofs.prefix.following_many.Goals as goal
 use Rattle.cesu8_decode.proofs.prefix.following_many.Goals.{then-run-eq0+else-len-ne-BLOCK, else-run-eq0}
 
@@ -31,7 +31,7 @@ returns-then-len-ne-BLOCK g c =
     let is = c.block_after.ensures s in
     let len = c.following_len-len.ensures in
     let within = len.within window 0 is in
-    stop_in_front s f bytes 32 c.following_len-len.result (omega (arith, c.requires)) (omega (arith, c.if-len-ne-BLOCK.true, within))
+    stop_in_prefix s f bytes 32 c.following_len-len.result (omega (arith, c.requires)) (omega (arith, c.if-len-ne-BLOCK.true, within))
     (in_block s f bytes _ (omega (arith, c.requires)) within (len.follow window 0 is) (len.stops window 0 is))
 
 -- Otherwise `following_from` starts after the first block or after the skipped ASCII, and the bytes
@@ -51,7 +51,7 @@ following_from-requires-clause-first g c =
           let within = len.within window 0 is in
           let few = in_block s f bytes _ (omega (arith, c.requires)) within (len.follow window 0 is) (len.stops window 0 is) in
           let start : w.following_len-len.result ≡ c.max.result = omega (arith, c.max.ensures, w.if-run-eq0.true, w.if-len-ne-BLOCK.false) in
-          subst (FirstFollow s f bytes) start (first_of_front s f bytes 32 w.following_len-len.result (omega (arith, c.requires)) few.first)
+          subst (FirstFollow s f bytes) start (first_of_prefix s f bytes 32 w.following_len-len.result (omega (arith, c.requires)) few.first)
       | else-run-eq0 w ↦
           let start : c.run_of_groups-run.result ≡ c.max.result = omega (arith, c.max.ensures, run.within, w.if-run-eq0.false) in
           subst (FirstFollow s f bytes) start (ones_follow s f bytes c.run_of_groups-run.result run.within.0 (λ i before.

@@ -4,7 +4,7 @@ use Rattle.std.proofs.Common.{◌≡◌, ◌∙◌, ◌+◌, ◌-◌, ◌≤◌,
 use Rattle.std.proofs.Math.Seq.{take-add}
 use Rattle.std.proofs.lemmas.Bool.{iff_false}
 use Rattle.std.proofs.lemmas.List.{take-append-drop, take-take, length-take-le}
-use Rattle.cesu8_bytes.proofs.lists.Ends.{stays_behind}
+use Rattle.cesu8_bytes.proofs.lists.Ends.{same_after}
 use Rattle.cesu8_bytes.proofs.lanes.short.copy_short.Goals as goal
 
 pub loop-at-preserved : goal.loop-at-preserved
@@ -19,7 +19,7 @@ loop-at-preserved c =
     record {
       within = within;
       copied = put.writes.bytes ∙ ap (λ bs. bs ++ take 64 (drop at bytes)) inv.copied ∙ sym (take-add at 64 bytes) ∙ ap (λ n. take n bytes) (sym end);
-      behind = stays_behind _ _ _ (length bytes) within put.behind ∙ inv.behind;
+      behind = same_after _ _ _ (length bytes) within put.behind ∙ inv.behind;
       len = put.writes.len ∙ inv.len;
     }
 

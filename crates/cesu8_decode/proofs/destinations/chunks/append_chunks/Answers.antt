@@ -6,7 +6,7 @@ use Rattle.std.proofs.lemmas.List.{length-take-le}
 use Rattle.cesu8_decode.specs.Decoding.{IsDecoded}
 use Rattle.cesu8_decode.specs.DecodedOffsets.{window_of}
 use Rattle.cesu8_decode.proofs.chunks.TextAfterPrefix.{none_appended}
-use Rattle.cesu8_decode.proofs.decoder.BlocksInPlace.{all_decoded, decoded_fits, none_decoded, none_refused, refused_decoded, some_refused}
+use Rattle.cesu8_decode.proofs.decoder.BlocksInPlace.{all_decoded, decoded_fits, none_decoded, none_rejected, refused_decoded, some_rejected}
 use Rattle.cesu8_decode.proofs.decoder.Passes.{at_start, reads_on}
 use Rattle.cesu8_decode.proofs.destinations.chunks.append_chunks.Goals as goal
 
@@ -39,13 +39,13 @@ append_next-pass-requires-clause-fits g c after old new fine more =
       c.loop-read.text.ok,
     )
 
-pub returns-in_err-unless_refused : goal.returns-in_err-unless_refused
-returns-in_err-unless_refused g c =
+pub returns-in_err-unless_rejected : goal.returns-in_err-unless_rejected
+returns-in_err-unless_rejected g c =
     let f = g.F.Flavor.flavor in
     let which = g.S.Reading.which in
     let bytes = c.args.bytes.now in
     let more = c.append_next-pass.ensures.next.more in
-    let refused = some_refused which _ c.in_err-unless_refused.ensures in
+    let refused = some_rejected which _ c.in_err-unless_rejected.ensures in
     none_appended f which bytes c.args.before _ c.from_residual.ensures.0
     (refused_decoded f which bytes _ _ _ (reads_on f which bytes _ _ _ _ _ _ true more refl refused c.loop-read.invariant.text) more.within.1)
 
@@ -56,7 +56,7 @@ loop-read-preserved g c =
     let bytes = c.args.bytes.now in
     let next = c.append_next-pass.ensures.next in
     let inv = c.loop-read.invariant in
-    let fine = none_refused f which _ _ _ _ _ _ (reads_on f which bytes _ _ _ _ _ _ _ next.more refl refl inv.text) c.in_ok-unless_refused.ensures.0 in
+    let fine = none_rejected f which _ _ _ _ _ _ (reads_on f which bytes _ _ _ _ _ _ _ next.more refl refl inv.text) c.in_ok-unless_rejected.ensures.0 in
     record {
       pass = next.more.pass fine;
       text = subst (λ text. IsDecoded f which (window_of bytes) 0 c.append_next-pass.result.read c.args.before.items text false) (sym (next.text fine))

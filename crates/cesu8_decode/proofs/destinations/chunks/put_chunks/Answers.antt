@@ -5,7 +5,7 @@ use Rattle.std.proofs.lemmas.List.{length-take-le}
 use Rattle.cesu8_text.specs.Encoding.{Flavor}
 use Rattle.cesu8_text.specs.Reading.{lossy_length}
 use Rattle.cesu8_bytes.specs.declared.strictness.Strictness.TheVariants.{Lossy}
-use Rattle.cesu8_bytes.proofs.lists.Ends.{stays_behind}
+use Rattle.cesu8_bytes.proofs.lists.Ends.{same_after}
 use Rattle.cesu8_decode.specs.Decoding.{IsDecoded}
 use Rattle.cesu8_decode.specs.DecodedOffsets.{window_of}
 use Rattle.cesu8_decode.proofs.chunks.WrittenChunks.{all_written}
@@ -58,7 +58,7 @@ loop-read-preserved g c =
         put.writes.len,
         fits f c.args.bytes.now c.loop-read.out _ c.loop-read.end _ fine more.within.1 (omega (arith, c.requires, inv.len)) inv.inside,
       );
-      behind = put.behind ∙ stays_behind _ _ c.loop-read.end c.put-end.result (omega (arith, put.writes.end)) inv.behind;
+      behind = put.behind ∙ same_after _ _ c.loop-read.end c.put-end.result (omega (arith, put.writes.end)) inv.behind;
       len = put.writes.len ∙ inv.len;
     }
 

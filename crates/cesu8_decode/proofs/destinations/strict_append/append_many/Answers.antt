@@ -24,8 +24,8 @@ returns-in_err-rest g c =
     appended_after f c.args.bytes.now c.loop-len.rest.now c.args.before c.loop-len.text _ inv.read inv.capacity
     (none_appended f Strict c.loop-len.rest.now c.loop-len.text _ c.from_residual.ensures.0 (refl, c.in_err-rest.ensures.none))
 
-pub returns-then-are_few : goal.returns-then-are_few
-returns-then-are_few g c =
+pub returns-then-are_short : goal.returns-then-are_short
+returns-then-are_short g c =
     let f = g.F.Flavor.flavor in
     let inv = c.loop-len.invariant in
     let step = c.in_ok-rest.ensures in

@@ -6,7 +6,7 @@ use Rattle.cesu8_bytes.specs.TextChunks.{IsReadSoFar}
 use Rattle.cesu8_bytes.specs.declared.strictness.Strictness.TheVariants.{Strict}
 use Rattle.cesu8_decode.specs.Following.{Unchanged}
 use Rattle.cesu8_decode.specs.Prefixes.{IsLongestPrefix}
-use Rattle.cesu8_decode.specs.declared.strategy.TheConstants.{FEW_BYTES}
+use Rattle.cesu8_bytes.specs.declared.lanes.class.TheConstants.{LANES}
 use Rattle.cesu8_decode.proofs.destinations.strict_append.append_many.Given as goal
 
 abbrev pub decreases-loop-len : goal.decreases-loop-len
@@ -16,7 +16,7 @@ abbrev pub invariant-loop-len : goal.invariant-loop-len
 invariant-loop-len g l = record {
   read : IsReadSoFar g.F.Flavor.flavor Strict l.fn.bytes l.rest l.fn.before.items l.text.items;
   prefix : IsLongestPrefix Unchanged g.F.Flavor.flavor l.rest l.len;
-  many : FEW_BYTES < length l.rest;
+  many : LANES < length l.rest;
   room : vec_len l.text + length l.rest ≤ vec_capacity l.text;
   capacity : vec_capacity l.text ≡ vec_capacity l.fn.before;
 }

@@ -30,7 +30,7 @@ returns-then-first-clause-read g c =
     let same : IsPrefixOf rest first = rw take_rest at c.first_eight-first.ensures.prefix in
     let null = changed_null f first (c.changes.ensures.0 c.if-not-changes.false) c.if-first.true in
     rw (take_rest, take_rest) (more_read f Strict bytes rest _ _ _ _
-    (prefix_appended f bytes c.args.len c.requires.prefix.0 bytes before before c.append_front.new.out.items (nothing_read f Strict bytes before) c.append_front.ensures.bytes)
+    (prefix_appended f bytes c.args.len c.requires.prefix.0 bytes before before c.append_prefix.new.out.items (nothing_read f Strict bytes before) c.append_prefix.ensures.bytes)
     (seen_null_read f rest first same Strict _ _ null c.append.ensures.bytes))
 
 pub returns-clause-read : goal.returns-clause-read
@@ -43,5 +43,5 @@ returns-clause-read g c =
     let same : IsPrefixOf rest first = rw take_rest at c.first_eight-first.ensures.prefix in
     let pair = changed_pair f first (c.changes.ensures.0 c.if-not-changes.false) c.if-first.false in
     rw (take_rest, take_rest) (more_read f Strict bytes rest _ _ _ _
-    (prefix_appended f bytes c.args.len c.requires.prefix.0 bytes before before c.append_front.new.out.items (nothing_read f Strict bytes before) c.append_front.ensures.bytes)
+    (prefix_appended f bytes c.args.len c.requires.prefix.0 bytes before before c.append_prefix.new.out.items (nothing_read f Strict bytes before) c.append_prefix.ensures.bytes)
     (seen_pair_read f rest first same Strict _ _ pair c.utf8_of_pair.result c.utf8_of_pair.ensures c.append-2.ensures.bytes))

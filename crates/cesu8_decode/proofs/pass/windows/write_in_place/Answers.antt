@@ -13,7 +13,7 @@ loop-pass-init g c = record {
 
 pub write_window-window-requires-clause-boundary : goal.write_window-window-requires-clause-boundary
 write_window-window-requires-clause-boundary g c =
-    let fine : c.loop-pass.pass.is_refused ≡ false = search rules in
+    let fine : c.loop-pass.pass.is_rejected ≡ false = search rules in
     (c.loop-pass.invariant.more.pass fine).boundary
 
 pub loop-pass-preserved : goal.loop-pass-preserved

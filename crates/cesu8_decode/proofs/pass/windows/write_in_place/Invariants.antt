@@ -11,5 +11,5 @@ decreases-loop-pass g l = length l.fn.bytes - l.pass.read
 abbrev pub invariant-loop-pass : goal.invariant-loop-pass
 invariant-loop-pass g l = record {
   more : GoesOn g.F.Flavor.flavor g.S.Reading.which l.fn.bytes l.fn.before l.pass l.initial.out l.out;
-  fresh : l.pass.read ≡ l.fn.before.read → l.pass.is_refused ≡ false;
+  fresh : l.pass.read ≡ l.fn.before.read → l.pass.is_rejected ≡ false;
 }

@@ -35,7 +35,7 @@ write_window-window-requires-clause-boundary g c =
     let bytes = c.args.bytes.now in
     let at = c.loop-pass.pass.read in
     let so_far = c.loop-pass.invariant.more in
-    let fine : c.loop-pass.pass.is_refused ≡ false = search rules in
+    let fine : c.loop-pass.pass.is_rejected ≡ false = search rules in
     let are = are_last bytes _ c.copy_short.new.buf c.saturating_sub-first.result refl (rw take_rest at c.copy_short.ensures) in
     let place = either c.saturating_sub-first.result c.args.before.read at c.saturating_sub-first.ensures so_far.within.0 in
     boundary_agrees f (window_of c.copy_short.new.buf) (window_of bytes) (at - c.saturating_sub-first.result) at
@@ -66,7 +66,7 @@ loop-pass-preserved g c =
     let first = c.saturating_sub-first.result in
     let at = c.loop-pass.pass.read in
     let so_far = c.loop-pass.invariant.more in
-    let fine : c.loop-pass.pass.is_refused ≡ false = search rules in
+    let fine : c.loop-pass.pass.is_rejected ≡ false = search rules in
     let are = are_last bytes _ last first refl (rw take_rest at c.copy_short.ensures) in
     let place = either first c.args.before.read at c.saturating_sub-first.ensures so_far.within.0 in
     let window = c.write_window-window.ensures in

@@ -8,8 +8,8 @@ pub returns-then-window-eq0 : goal.returns-then-window-eq0
 returns-then-window-eq0 g c =
     let f = g.F.Flavor.flavor in
     let bytes = c.args.bytes.now in
-    let window = c.window_of_few-window.result in
-    let is = c.window_of_few-window.ensures.window in
+    let window = c.window_of_short-window.result in
+    let is = c.window_of_short-window.ensures.window in
     let len = unchanged_by_masks f bytes window c.requires is.0 is.1 c.min.result c.min.ensures in record {
       len = len;
       changes = λ _ _. changes_by_masks f bytes window c.requires is.0 is.1 c.if-window-eq0.true;
@@ -20,8 +20,8 @@ pub returns-else-window-eq0 : goal.returns-else-window-eq0
 returns-else-window-eq0 g c =
     let f = g.F.Flavor.flavor in
     let bytes = c.args.bytes.now in
-    let window = c.window_of_few-window.result in
-    let is = c.window_of_few-window.ensures.window in record {
+    let window = c.window_of_short-window.result in
+    let is = c.window_of_short-window.ensures.window in record {
       len = unchanged_by_masks f bytes window c.requires is.0 is.1 c.min.result c.min.ensures;
       changes = λ _ some. absurd (some refl);
       none = λ _ _ _. none_by_mask f bytes window c.requires is.0 is.1 (omega (arith, c.if-window-eq0.false));

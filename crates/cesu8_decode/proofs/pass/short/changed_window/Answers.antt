@@ -10,8 +10,8 @@ use Rattle.cesu8_text.specs.Encoding.{Mutf8}
 use Rattle.cesu8_decode.specs.Masks.{HasBits, IsWindow, is_null_at}
 use Rattle.cesu8_decode.proofs.decoder.PaddedWindows.{alike_without_zeros, window_of_alike, nulls_of_changed, no_nulls_of_changed, changed_is_window}
 use Rattle.cesu8_decode.proofs.decoder.MaskBits.{class_bits}
-use Rattle.cesu8_decode.proofs.pass.few.changed_window.Goals as goal
-use Rattle.cesu8_decode.proofs.pass.few.changed_window.Goals.{then-has_long_null, else-has_long_null}
+use Rattle.cesu8_decode.proofs.pass.short.changed_window.Goals as goal
+use Rattle.cesu8_decode.proofs.pass.short.changed_window.Goals.{then-has_long_null, else-has_long_null}
 
 pub returns-clause-window : goal.returns-clause-window
 returns-clause-window g c =

@@ -2,7 +2,7 @@
 use Rattle.std.proofs.Common.{ℕ, List, ◌+◌, ◌<◌, ◌≡◌, ◌++◌, get_or, replicate, ap, sym, ◌∙◌, zero-add}
 use Rattle.cesu8_decode.proofs.by_offset.CharacterBoundaries.{boundary_of_zeros}
 use Rattle.cesu8_decode.proofs.decoder.PaddedWindows.{alike_with_zeros, ends_with_bytes}
-use Rattle.cesu8_decode.proofs.lanes.windows.window_of_few.Goals as goal
+use Rattle.cesu8_decode.proofs.lanes.windows.window_of_short.Goals as goal
 
 -- The lanes agree with the bytes at every offset.
 lanes_alike : (bytes lanes : List ℕ) (m n : ℕ) → lanes ≡ bytes ++ replicate m 0 → (i : ℕ) → i < n → get_or lanes i 0 ≡ get_or bytes (0 + i) 0

@@ -2,9 +2,9 @@
 use Rattle.std.proofs.Common.{arith}
 use Rattle.std.proofs.lemmas.List.{length-take}
 use Rattle.cesu8_decode.proofs.chunks.SliceReadings.{decoded_put}
-use Rattle.cesu8_decode.proofs.destinations.slices.put_few.Goals as goal
+use Rattle.cesu8_decode.proofs.destinations.slices.put_short.Goals as goal
 
 pub returns : goal.returns
 returns g c =
     decoded_put g.F.Flavor.flavor g.S.Reading.which c.args.bytes.now _ c.copy_to_slice.result c.map_err.result c.args.buf.now c.copy_to_slice.new.buf c.in-Ok.ensures.text
-    (omega (arith, length-take c.in-Ok.end c.write_few.new.out, c.write_few.auto.out, g.WRITTEN.fits)) c.map_err.ensures.cases c.copy_to_slice.ensures
+    (omega (arith, length-take c.in-Ok.end c.write_short.new.out, c.write_short.auto.out, g.WRITTEN.fits)) c.map_err.ensures.cases c.copy_to_slice.ensures

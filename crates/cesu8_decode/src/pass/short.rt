@@ -7,50 +7,49 @@
 ghost use Rattle.std.specs.Prelude.{◌≡◌, ℕ, ◌≤◌, length, slice_index, take};
 ghost use Rattle.cesu8_bytes.specs.declared.strictness.Strictness.{Strictness as AnyStrictness};
 ghost use Rattle.cesu8_bytes.specs.declared.strictness.Strictness.TheVariants.{Lossy};
-ghost use Rattle.cesu8_decode.specs.Decoding.{WritesReading, WritesText, room_for_few};
+ghost use Rattle.cesu8_decode.specs.Decoding.{WritesReading, WritesText, room_for_short};
 ghost use Rattle.cesu8_decode.specs.Prefixes.{AreChanges, IsProperPrefix};
 ghost use Rattle.cesu8_decode.specs.Masks.{IsWindow};
 
 use super::window::WIDEST;
 use crate::lanes::padded::load;
-use crate::lanes::windows::{Window, window_of_few};
+use crate::lanes::windows::{Window, window_of_short};
 use crate::pass::events::{STORED_AFTER, write_events};
 use crate::prefix::UnchangedPrefix;
-use crate::strategy::FEW_BYTES;
 use cesu8_bytes::flavor::Flavor;
 use cesu8_bytes::lanes::class::{Equal, LANES, bits};
 use cesu8_bytes::strictness::{LossyReading, Reading, StrictReading, Strictness};
 use std::simd::prelude::*;
 
 // The lengths of buffers for the longest text, and for what is stored after it.
-pub const FEW_STRICT: usize = FEW_BYTES + STORED_AFTER;
+pub const SHORT_STRICT: usize = LANES + STORED_AFTER;
 
-pub const FEW_LOSSY: usize = WIDEST * FEW_BYTES + STORED_AFTER;
+pub const SHORT_LOSSY: usize = WIDEST * LANES + STORED_AFTER;
 
 /// The length of an array for the bytes, and for the zeros after them that are loaded too.
-const SOURCE: usize = FEW_BYTES + LANES;
+const SOURCE: usize = LANES + LANES;
 
 /// Writes the decoded text of at most 64 bytes and returns its length, or returns an error if
 /// decoding is strict and a byte is ill-formed. `front` is their unchanged prefix.
 #[inline(always)]
 #[tactic(auto, using(crate::proofs::decoder::Passes::reads_text))]
-pub fn write_few<F: Flavor, S: Reading>(
+pub fn write_short<F: Flavor, S: Reading>(
     bytes: &[u8],
     front: UnchangedPrefix,
     out: &mut [u8],
-) -> Result<usize, S::Refusal>
-    requires few { length bytes.now ≤ FEW_BYTES }
+) -> Result<usize, S::Error>
+    requires short { length bytes.now ≤ LANES }
     requires front { IsProperPrefix F.flavor bytes.now front }
-    requires room { room_for_few S.which ≤ length out.old }
+    requires room { room_for_short S.which ≤ length out.old }
     ensures { WritesReading F.flavor S.which bytes.now result out.old out.new }
 {
     if front.changed != 0 {
         let end = write_well_formed::<F>(bytes, front.changed, out);
-        return S::unless_refused(false, end);
+        return S::unless_rejected(false, end);
     }
     match S::strictness() {
-        Strictness::Strict => S::unless_refused(true, 0),
-        Strictness::Lossy => S::unless_refused(false, write_lossily::<F>(bytes, out)),
+        Strictness::Strict => S::unless_rejected(true, 0),
+        Strictness::Lossy => S::unless_rejected(false, write_lossily::<F>(bytes, out)),
     }
 }
 
@@ -59,9 +58,9 @@ pub fn write_few<F: Flavor, S: Reading>(
 /// many callers.
 #[inline(never)]
 fn write_well_formed<F: Flavor>(bytes: &[u8], changed: u64, out: &mut [u8]) -> usize
-    requires few { length bytes.now ≤ FEW_BYTES }
+    requires short { length bytes.now ≤ LANES }
     requires changed { AreChanges F.flavor bytes.now changed }
-    requires room { FEW_STRICT ≤ length out.old }
+    requires room { SHORT_STRICT ≤ length out.old }
     ensures { (which : AnyStrictness)
         → WritesText F.flavor which bytes.now result out.old out.new }
 {
@@ -75,13 +74,13 @@ fn write_well_formed<F: Flavor>(bytes: &[u8], changed: u64, out: &mut [u8]) -> u
 /// its length. It is not inlined, since it has several callers.
 #[inline(never)]
 fn write_lossily<F: Flavor>(bytes: &[u8], out: &mut [u8]) -> usize
-    requires few { length bytes.now ≤ FEW_BYTES }
-    requires room { FEW_LOSSY ≤ length out.old }
+    requires short { length bytes.now ≤ LANES }
+    requires room { SHORT_LOSSY ≤ length out.old }
     ensures { WritesText F.flavor Lossy bytes.now result out.old out.new }
 {
     let mut source = [0; SOURCE];
     load(bytes, &mut source);
-    let window = window_of_few::<F>(bytes);
+    let window = window_of_short::<F>(bytes);
     write_events::<F, LossyReading>(&source, 0, window, out, 0)
 }
 
@@ -90,7 +89,7 @@ fn write_lossily<F: Flavor>(bytes: &[u8], out: &mut [u8]) -> usize
 #[inline(always)]
 fn changed_window<F: Flavor>(source: &[u8], changed: u64, len: usize) -> Window
     requires source { length source.now ≡ SOURCE }
-    requires len { len ≤ FEW_BYTES }
+    requires len { len ≤ LANES }
     requires zeros { (i : ℕ) → len ≤ i → slice_index source.now i ≡ 0 }
     requires changed { AreChanges F.flavor (take len source.now) changed }
     ensures window { IsWindow F.flavor source.now 0 result }

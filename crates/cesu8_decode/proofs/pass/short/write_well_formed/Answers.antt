@@ -4,13 +4,13 @@ use Rattle.std.proofs.Common.{arith}
 use Rattle.cesu8_decode.proofs.by_offset.CharacterBoundaries.{boundary_of_zeros}
 use Rattle.cesu8_decode.proofs.decoder.PaddedWindows.{alike_with_zeros}
 use Rattle.cesu8_decode.proofs.decoder.Passes.{text_of_window}
-use Rattle.cesu8_decode.proofs.pass.few.write_well_formed.Goals as goal
+use Rattle.cesu8_decode.proofs.pass.short.write_well_formed.Goals as goal
 
 pub write_events-requires-clause-window : goal.write_events-requires-clause-window
 write_events-requires-clause-window g c = record {
   is_window = c.changed_window-window.ensures.window;
   boundary = boundary_of_zeros g.F.Flavor.flavor c.load.new.source;
-  after = omega (arith, c.changed_window-window.ensures.len, c.requires.few, c.load.ensures, c.load.auto);
+  after = omega (arith, c.changed_window-window.ensures.len, c.requires.short, c.load.ensures, c.load.auto);
 }
 
 pub returns : goal.returns

@@ -2,7 +2,7 @@
 use Rattle.std.proofs.Common.{◌≡◌, ◌+◌, ◌++◌, ◌∙◌, ap, arith, length, take, append-nil, sym, rules}
 use Rattle.std.proofs.Math.Seq.{take-append-add}
 use Rattle.std.proofs.lemmas.List.{take-take, length-take-le}
-use Rattle.cesu8_bytes.proofs.writing.copies.append_front.Goals as goal
+use Rattle.cesu8_bytes.proofs.writing.copies.append_prefix.Goals as goal
 
 pub returns : goal.returns
 returns c =

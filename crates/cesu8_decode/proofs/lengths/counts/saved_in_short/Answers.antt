@@ -3,7 +3,7 @@
 use Rattle.std.proofs.Common.{◌-◌, ◌∙◌, length, ap}
 use Rattle.cesu8_decode.specs.DecodedOffsets.{saved_between}
 use Rattle.cesu8_decode.proofs.decoder.MaskCounts.{saved_before_zeros}
-use Rattle.cesu8_decode.proofs.lengths.counts.saved_by_few.Goals as goal
+use Rattle.cesu8_decode.proofs.lengths.counts.saved_in_short.Goals as goal
 
 pub returns-then-is_one_block : goal.returns-then-is_one_block
 returns-then-is_one_block g c =
