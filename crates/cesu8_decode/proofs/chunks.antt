@@ -4,6 +4,7 @@ pub mod DecodedChunks
 pub mod WrittenChunks
 pub mod Changed
 pub mod DecodedCharacters
+pub mod ModeTexts
 pub mod SliceReadings
 pub mod Strings
 pub mod WholeBytes

@@ -5,4 +5,5 @@ pub mod Errors
 pub mod Following
 pub mod Decoding
 pub mod PutReadings
+pub mod Modes
 pub mod Prefixes

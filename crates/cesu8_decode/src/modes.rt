@@ -1,16 +1,17 @@
-//! The modes of decoding as types: `Lenient` returns input unchanged if it is UTF-8, and
-//! `EncodingAlone` only if it is UTF-8 in which nothing needs conversion.
+//! The modes of decoding: `Lenient` returns input unchanged if it is UTF-8, and `EncodingAlone` only
+//! if it is UTF-8 in which nothing needs conversion.
+//!
+//! A public call has the mode as a type, so that its fast path is compiled for that mode. What a
+//! fast path calls gets the mode as a value, so that one function serves both modes.
 //!
 //! `prefix_unless_kept` decides whether a call returns its input unchanged. If not, it returns the
 //! unchanged prefix, with which decoding begins.
 
-ghost use Rattle.std.specs.Prelude.{◌≡◌, ◌↔◌, ◌⊎◌, ℕ, ◌≤◌, List, IfNone, IfSome, IsTrue, IsUtf8, length, take};
-ghost use Rattle.cesu8_text.specs.Class.{IsUnchangedUtf8};
-ghost use Rattle.cesu8_text.specs.Encoding.{Flavor as AnyFlavor};
-ghost use Rattle.cesu8_text.specs.Reading.{IsStrictReading, IsLenientReading, reading, IsLenientLossyReading};
-ghost use Rattle.cesu8_text.specs.Kept.{KnowsTexts};
-ghost use Rattle.cesu8_text.proofs.reading.KeptTexts.{encoding_texts, lenient_texts};
-ghost use Rattle.cesu8_decode.specs.Prefixes.{IsProperPrefix, IsPrefixUnlessKept};
+ghost use Rattle.std.specs.Prelude.{◌≡◌, ◌↔◌, ◌⊎◌, ◌≤◌, IfNone, IfSome, IsTrue, IsUtf8, length, take};
+ghost use Rattle.cesu8_decode.specs.Modes.{Keeps};
+ghost use Rattle.cesu8_decode.specs.Prefixes.{IsProperPrefix, IsPrefixUnlessKept, IsUnchangedPrefix};
+ghost use Rattle.cesu8_decode.specs.declared.modes.Mode.{Mode as AnyMode};
+ghost use Rattle.cesu8_decode.specs.declared.modes.Mode.TheVariants.{EncodingAlone as TheEncodingAlone, Lenient as AnyUtf8};
 
 use crate::prefix::{UnchangedPrefix, unchanged_prefix};
 use crate::utf8::is_utf8_by_parts;
@@ -18,27 +19,62 @@ use cesu8_bytes::fast_paths::{is_short_ascii, is_short_unchanged_ascii};
 use cesu8_bytes::flavor::{Cesu8Flavor, Flavor};
 use cesu8_bytes::lanes::short::are_short;
 
-/// A mode: `EncodingAlone` for calls with `strict` in their names, and `Lenient` for the others.
+/// A mode, as a value.
+#[derive(Clone, Copy)]
+pub enum Mode {
+    /// Input is UTF-8 as a whole, or else the encoding.
+    Lenient,
+    /// Input is the encoding. It is also UTF-8 if nothing in it needs conversion.
+    EncodingAlone,
+}
+
+/// A mode, as a type: `EncodingAlone` for calls with `strict` in their names, and `Lenient` for the
+/// others.
 pub trait Accepts {
-    /// The input that is returned unchanged.
-    ghost keeps: { AnyFlavor → List ℕ → Type 0 };
+    ghost mode: { AnyMode };
 
-    /// Which text an input has: if ill-formed bytes are rejected, and if they are replaced.
-    ghost reads: { AnyFlavor → List ℕ → List ℕ → Type 0 };
-
-    ghost reads_lossily: { AnyFlavor → List ℕ → List ℕ → Type 0 };
+    /// Returns the mode, as a value.
+    fn mode() -> Mode
+        ensures { result ≡ mode };
 
     /// Inlined fast path: returns whether the input is short ASCII that is returned unchanged. The
     /// module `fast_paths` defines "short".
     fn is_short_kept<F: Flavor>(bytes: &[u8]) -> bool
-        ensures { IsTrue result → keeps F.flavor bytes.now };
+        ensures { IsTrue result → Keeps mode F.flavor bytes.now };
+}
 
-    /// Returns the unchanged prefix, or the whole input if it is returned unchanged.
-    fn prefix_of_other<F: Flavor>(bytes: &[u8]) -> UnchangedPrefix
-        ensures { IsPrefixUnlessKept F.flavor (keeps F.flavor bytes.now) bytes.now result };
+/// The mode of calls that accept UTF-8 too.
+pub struct Lenient;
 
-    ghost known: { (f : AnyFlavor) (bytes : List ℕ)
-        → KnowsTexts f bytes (keeps f bytes) (reads f bytes) (reads_lossily f bytes) };
+impl Accepts for Lenient {
+    ghost mode = { AnyUtf8 };
+
+    #[inline(always)]
+    fn mode() -> Mode {
+        Mode::Lenient
+    }
+
+    #[inline(always)]
+    fn is_short_kept<F: Flavor>(bytes: &[u8]) -> bool {
+        is_short_ascii(bytes)
+    }
+}
+
+/// The mode of calls that accept the encoding only.
+pub struct EncodingAlone;
+
+impl Accepts for EncodingAlone {
+    ghost mode = { TheEncodingAlone };
+
+    #[inline(always)]
+    fn mode() -> Mode {
+        Mode::EncodingAlone
+    }
+
+    #[inline(always)]
+    fn is_short_kept<F: Flavor>(bytes: &[u8]) -> bool {
+        is_short_unchanged_ascii::<F>(bytes)
+    }
 }
 
 /// Returns `None` if mode `A` returns the input unchanged. Otherwise returns the unchanged prefix,
@@ -46,14 +82,14 @@ pub trait Accepts {
 /// conversion.
 #[inline(always)]
 pub fn prefix_unless_kept<F: Flavor, A: Accepts>(bytes: &[u8]) -> Option<UnchangedPrefix>
-    ensures kept { IfNone result (A.keeps F.flavor bytes.now) }
-    ensures other { IfSome result (λ _. ¬ (A.keeps F.flavor bytes.now)) }
+    ensures kept { IfNone result (Keeps A.mode F.flavor bytes.now) }
+    ensures other { IfSome result (λ _. ¬ (Keeps A.mode F.flavor bytes.now)) }
     ensures prefix { IfSome result (IsProperPrefix F.flavor bytes.now) }
 {
     if A::is_short_kept::<F>(bytes) {
         return None;
     }
-    let prefix = prefix_by_call::<F, A>(bytes);
+    let prefix = prefix_by_call::<F>(bytes, A::mode());
     if prefix.len == bytes.len() {
         return None;
     }
@@ -64,39 +100,36 @@ pub fn prefix_unless_kept<F: Flavor, A: Accepts>(bytes: &[u8]) -> Option<Unchang
 /// returns two words, which fit in registers. Decoding to a slice does not need it, since a call
 /// follows its fast path anyway.
 #[inline(never)]
-fn prefix_by_call<F: Flavor, A: Accepts>(bytes: &[u8]) -> UnchangedPrefix
-    ensures { IsPrefixUnlessKept F.flavor (A.keeps F.flavor bytes.now) bytes.now result }
+fn prefix_by_call<F: Flavor>(bytes: &[u8], mode: Mode) -> UnchangedPrefix
+    ensures { IsPrefixUnlessKept F.flavor (Keeps mode F.flavor bytes.now) bytes.now result }
 {
-    A::prefix_of_other::<F>(bytes)
+    prefix_of_other::<F>(bytes, mode)
 }
 
-/// Input is UTF-8 as a whole, or else the encoding.
-pub struct Lenient;
-
-impl Accepts for Lenient {
-    ghost keeps = { λ f bytes. IsUtf8 bytes };
-
-    ghost reads = { IsLenientReading };
-
-    ghost reads_lossily = { IsLenientLossyReading };
-
-    #[inline(always)]
-    fn is_short_kept<F: Flavor>(bytes: &[u8]) -> bool {
-        is_short_ascii(bytes)
+/// Returns the unchanged prefix, or the whole input if the mode returns it unchanged.
+#[inline(always)]
+pub fn prefix_of_other<F: Flavor>(bytes: &[u8], mode: Mode) -> UnchangedPrefix
+    ensures { IsPrefixUnlessKept F.flavor (Keeps mode F.flavor bytes.now) bytes.now result }
+{
+    let prefix = unchanged_prefix::<F>(bytes);
+    match mode {
+        Mode::Lenient => lenient_prefix::<F>(bytes, prefix),
+        Mode::EncodingAlone => prefix,
     }
+}
 
-    #[inline(always)]
-    fn prefix_of_other<F: Flavor>(bytes: &[u8]) -> UnchangedPrefix {
-        let prefix = unchanged_prefix::<F>(bytes);
-        // If the input is UTF-8, the byte after the unchanged prefix begins a character of four
-        // bytes or is 00.
-        if prefix.len == bytes.len() || !matches!(bytes[prefix.len], 0 | 0xF0..=0xF7) {
-            return prefix;
-        }
-        all_if_utf8(bytes, prefix)
+/// Returns the whole input if it is UTF-8, and otherwise `prefix`, its unchanged prefix.
+#[inline(always)]
+fn lenient_prefix<F: Flavor>(bytes: &[u8], prefix: UnchangedPrefix) -> UnchangedPrefix
+    requires { IsUnchangedPrefix F.flavor bytes.now prefix }
+    ensures { IsPrefixUnlessKept F.flavor (IsUtf8 bytes.now) bytes.now result }
+{
+    // If the input is UTF-8, the byte after the unchanged prefix begins a character of four bytes
+    // or is 00.
+    if prefix.len == bytes.len() || !matches!(bytes[prefix.len], 0 | 0xF0..=0xF7) {
+        return prefix;
     }
-
-    ghost known = { lenient_texts };
+    all_if_utf8(bytes, prefix)
 }
 
 /// Returns the whole input if it is UTF-8, and otherwise `prefix`, whose bytes are known to be
@@ -119,35 +152,11 @@ fn all_if_utf8(bytes: &[u8], prefix: UnchangedPrefix) -> UnchangedPrefix
     }
 }
 
-/// Returns whether the bytes are UTF-8, by the test of lenient calls. It is not inlined, so that
-/// its callers are small.
-#[inline(never)]
+/// Returns whether the bytes are UTF-8, by the test of lenient calls.
+#[inline(always)]
 pub fn is_utf8(bytes: &[u8]) -> bool
     ensures { IsTrue result ↔ IsUtf8 bytes.now }
 {
     // In CESU-8 all ASCII is unchanged, so no byte 00 ends the prefix.
-    Lenient::prefix_of_other::<Cesu8Flavor>(bytes).len == bytes.len()
-}
-
-/// Input is the encoding. It is also UTF-8 if nothing in it needs conversion.
-pub struct EncodingAlone;
-
-impl Accepts for EncodingAlone {
-    ghost keeps = { IsUnchangedUtf8 };
-
-    ghost reads = { IsStrictReading };
-
-    ghost reads_lossily = { λ f bytes text. text ≡ reading f bytes };
-
-    #[inline(always)]
-    fn is_short_kept<F: Flavor>(bytes: &[u8]) -> bool {
-        is_short_unchanged_ascii::<F>(bytes)
-    }
-
-    #[inline(always)]
-    fn prefix_of_other<F: Flavor>(bytes: &[u8]) -> UnchangedPrefix {
-        unchanged_prefix::<F>(bytes)
-    }
-
-    ghost known = { encoding_texts };
+    prefix_by_call::<Cesu8Flavor>(bytes, Mode::Lenient).len == bytes.len()
 }

@@ -1,11 +1,12 @@
 //! Decodes to a caller's slice. Input that the mode returns unchanged is copied, and other input is
 //! decoded.
 
+ghost use Rattle.cesu8_decode.specs.Modes.{Reads, ReadsLossily};
 ghost use Rattle.cesu8_decode.specs.PutReadings.{PutsText, ReadsAs};
 
 use crate::destinations::slices::{put_lossily, put_strictly};
 use crate::error::WriteError;
-use crate::modes::Accepts;
+use crate::modes::{Accepts, Mode, prefix_of_other};
 use cesu8_bytes::flavor::Flavor;
 use cesu8_bytes::strictness::{Reading, Strictness};
 use cesu8_bytes::writing::copies::copy_to_slice;
@@ -18,31 +19,33 @@ pub fn decode_to_slice<F: Flavor, A: Accepts, S: Reading>(
     bytes: &[u8],
     buf: &mut [u8],
 ) -> Result<usize, WriteError>
-    ensures { PutsText S.which (ReadsAs S.which (A.reads F.flavor bytes.now)
-        (A.reads_lossily F.flavor bytes.now)) result buf.old buf.new }
+    ensures { PutsText S.which (ReadsAs S.which (Reads A.mode F.flavor bytes.now)
+        (ReadsLossily A.mode F.flavor bytes.now)) result buf.old buf.new }
 {
     if A::is_short_kept::<F>(bytes) {
         return copy_to_slice(bytes, buf).map_err(WriteError::NoRoom);
     }
-    decode_other_to_slice::<F, A, S>(bytes, buf)
+    decode_other_to_slice::<F>(bytes, buf, A::mode(), S::strictness())
 }
 
 /// Like `decode_to_slice`, without the fast path. It is not inlined, so that short ASCII has few
 /// registers to save.
 #[inline(never)]
-fn decode_other_to_slice<F: Flavor, A: Accepts, S: Reading>(
+fn decode_other_to_slice<F: Flavor>(
     bytes: &[u8],
     buf: &mut [u8],
+    mode: Mode,
+    strictness: Strictness,
 ) -> Result<usize, WriteError>
-    ensures { PutsText S.which (ReadsAs S.which (A.reads F.flavor bytes.now)
-        (A.reads_lossily F.flavor bytes.now)) result buf.old buf.new }
+    ensures { PutsText strictness (ReadsAs strictness (Reads mode F.flavor bytes.now)
+        (ReadsLossily mode F.flavor bytes.now)) result buf.old buf.new }
 {
-    let prefix = A::prefix_of_other::<F>(bytes);
+    let prefix = prefix_of_other::<F>(bytes, mode);
     if prefix.len == bytes.len() {
         return copy_to_slice(bytes, buf).map_err(WriteError::NoRoom);
     }
     // `Ok` and `?` copy a result field by field: a copy of the whole would wait for the stores.
-    match S::strictness() {
+    match strictness {
         Strictness::Strict => Ok(put_strictly::<F>(bytes, prefix, buf)?),
         Strictness::Lossy => Ok(put_lossily::<F>(bytes, prefix, buf)?),
     }

@@ -8,6 +8,7 @@
 
 ghost use Rattle.std.specs.Prelude.{◌↔◌, IsTrue, take};
 ghost use Rattle.std.specs.Str.{chars};
+ghost use Rattle.cesu8_decode.specs.Modes.{Keeps, Reads, ReadsLossily};
 ghost use Rattle.simd_cesu8.specs.Encoding.{NeedsEncoding};
 ghost use Rattle.simd_cesu8.specs.Calls.{Encodes, DecodesAs, DecodesLossily, DecodesStrictly};
 
@@ -48,7 +49,7 @@ pub fn decode_as<F: Flavor, A: Accepts>(
     alloc: Global,
     bytes: &[u8],
 ) -> Result<CowText<'_>, DecodeFault>
-    ensures { DecodesAs (A.keeps F.flavor bytes.now) (A.reads F.flavor bytes.now) bytes.now result }
+    ensures { DecodesAs (Keeps A.mode F.flavor bytes.now) (Reads A.mode F.flavor bytes.now) bytes.now result }
 {
     let Some(front) = prefix_unless_kept::<F, A>(bytes) else {
         return Ok(CowText::Borrowed(known_text(bytes)));
@@ -98,8 +99,8 @@ pub fn decode_lossy_as<F: Flavor, A: Accepts>(
     alloc: Global,
     bytes: &[u8],
 ) -> Result<CowText<'_>, AllocError>
-    ensures { DecodesLossily F.flavor (A.keeps F.flavor bytes.now)
-        (A.reads_lossily F.flavor bytes.now) bytes.now result }
+    ensures { DecodesLossily F.flavor (Keeps A.mode F.flavor bytes.now)
+        (ReadsLossily A.mode F.flavor bytes.now) bytes.now result }
 {
     let Some(front) = prefix_unless_kept::<F, A>(bytes) else {
         return Ok(CowText::Borrowed(known_text(bytes)));

@@ -7,6 +7,7 @@ ghost use Rattle.std.specs.Str.{chars};
 ghost use Rattle.std.specs.String.{string_bytes, string_capacity};
 ghost use Rattle.simd_cesu8.specs.Encoding.{encoding};
 ghost use Rattle.simd_cesu8.specs.Reading.{IsStrictReading, HasNoStrictReading};
+ghost use Rattle.cesu8_decode.specs.Modes.{Reads, ReadsLossily};
 ghost use Rattle.cesu8_decode.specs.Prefixes.{IsProperPrefix};
 ghost use Rattle.simd_cesu8.specs.Fault.{OnInvalid};
 ghost use Rattle.simd_cesu8.specs.Slices.{WritesAnswer, WritesReading, WritesLossyReading};
@@ -71,7 +72,7 @@ pub fn decode_to_slice<F: Flavor, A: Accepts>(
     bytes: &[u8],
     buf: &mut [u8],
 ) -> Result<usize, DecodeSliceFault>
-    ensures { WritesReading (A.reads F.flavor bytes.now) result buf.old buf.new }
+    ensures { WritesReading (Reads A.mode F.flavor bytes.now) result buf.old buf.new }
 {
     match to_slice::decode_to_slice::<F, A, StrictReading>(bytes, buf) {
         Ok(len) => Ok(len),
@@ -92,7 +93,7 @@ pub fn decode_lossy_to_slice<F: Flavor, A: Accepts>(
     bytes: &[u8],
     buf: &mut [u8],
 ) -> Result<usize, LossySliceFault>
-    ensures { WritesLossyReading (A.reads_lossily F.flavor bytes.now) result buf.old buf.new }
+    ensures { WritesLossyReading (ReadsLossily A.mode F.flavor bytes.now) result buf.old buf.new }
 {
     match to_slice::decode_to_slice::<F, A, LossyReading>(bytes, buf) {
         Ok(len) => Ok(len),

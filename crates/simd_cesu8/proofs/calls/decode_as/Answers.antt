@@ -1,6 +1,6 @@
 -- Three results: the input is borrowed because the mode keeps it, the decoded text is owned, or
--- decoding fails. The mode's lemma `known` says what it keeps and reads. An owned text is never the
--- UTF-8 of the input: otherwise the input would have been borrowed.
+-- decoding fails. The lemma `known_texts` says what a mode keeps and reads. An owned text is never
+-- the UTF-8 of the input: otherwise the input would have been borrowed.
 use Rattle.std.proofs.Common.{ℕ, List, rules, ap, sym}
 use Rattle.std.specs.Str.{chars}
 use Rattle.std.specs.String.{string_bytes}
@@ -12,6 +12,8 @@ use Rattle.cesu8_text.proofs.reading.LossyBorrowing.{changed_reading}
 use Rattle.simd_cesu8.specs.Fault.{IfInvalid}
 use Rattle.simd_cesu8.specs.declared.error.DecodeFault.{DecodeFault}
 use Rattle.simd_cesu8.specs.declared.error.DecodeFault.TheVariants.{Invalid, Memory}
+use Rattle.cesu8_decode.specs.Modes.{Keeps, Reads}
+use Rattle.cesu8_decode.proofs.chunks.ModeTexts.{known_texts}
 use Rattle.simd_cesu8.proofs.calls.decode_as.Goals as goal
 
 -- What follows from the fact of an error `Invalid` is such a fact too.
@@ -20,13 +22,13 @@ IfInvalid-weaker (Invalid error) follows invalid = follows invalid
 IfInvalid-weaker (Memory error) follows memory = memory
 
 pub known_text-requires : goal.known_text-requires
-known_text-requires g c = (g.met.A.Accepts.known g.F.Flavor.flavor c.args.bytes.now).is_utf8 c.in_default.ensures.kept
+known_text-requires g c = (known_texts g.A.Accepts.mode g.F.Flavor.flavor c.args.bytes.now).is_utf8 c.in_default.ensures.kept
 
 pub returns-in_default : goal.returns-in_default
 returns-in_default g c =
     let kept = c.in_default.ensures.kept in
     record {
-      text = ((g.met.A.Accepts.known g.F.Flavor.flavor c.args.bytes.now).kept _ kept).1 (ap chars c.known_text.ensures);
+      text = ((known_texts g.A.Accepts.mode g.F.Flavor.flavor c.args.bytes.now).kept _ kept).1 (ap chars c.known_text.ensures);
       invalid = search rules;
       borrowed = search rules;
       borrowed_where = search (rules, kept);
@@ -42,8 +44,8 @@ returns g c =
     let f = g.F.Flavor.flavor in
     let bytes = c.args.bytes.now in
     let built = string_bytes c.in_ok-built.built in
-    let known = g.met.A.Accepts.known f bytes in
-    let not_kept : ¬ (g.A.Accepts.keeps f bytes) = c.in-Some.ensures.other in
+    let known = known_texts g.A.Accepts.mode f bytes in
+    let not_kept : ¬ (Keeps g.A.Accepts.mode f bytes) = c.in-Some.ensures.other in
     let reads = c.in_ok-built.ensures.text in
     record {
       text = ((known.other not_kept).strictly (chars built)).1 reads;
@@ -59,9 +61,9 @@ pub returns-in_err-built : goal.returns-in_err-built
 returns-in_err-built g c =
     let f = g.F.Flavor.flavor in
     let bytes = c.args.bytes.now in
-    let known = g.met.A.Accepts.known f bytes in
-    let not_kept : ¬ (g.A.Accepts.keeps f bytes) = c.in-Some.ensures.other in
-    let unread : HasNoStrictReading f bytes → (text : List ℕ) → ¬ (g.A.Accepts.reads f bytes text) =
+    let known = known_texts g.A.Accepts.mode f bytes in
+    let not_kept : ¬ (Keeps g.A.Accepts.mode f bytes) = c.in-Some.ensures.other in
+    let unread : HasNoStrictReading f bytes → (text : List ℕ) → ¬ (Reads g.A.Accepts.mode f bytes text) =
     λ none text reads. none text (((known.other not_kept).strictly text).0 reads) in
     let invalid = IfInvalid-weaker c.in_err-built.field-0.0 unread c.in_err-built.ensures.invalid in
     record {

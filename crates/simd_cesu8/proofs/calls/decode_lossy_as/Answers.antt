@@ -1,22 +1,24 @@
 -- Two results: the input is borrowed because the mode keeps it, or the decoded text is owned. The
--- mode's lemma `known` says what it keeps and reads. An owned text is never the UTF-8 of the input:
--- otherwise the input would have been borrowed.
+-- lemma `known_texts` says what a mode keeps and reads. An owned text is never the UTF-8 of the
+-- input: otherwise the input would have been borrowed.
 use Rattle.std.proofs.Common.{rules, ap, sym, subst}
 use Rattle.std.specs.Str.{chars, IsUtf8}
 use Rattle.std.specs.String.{string_bytes}
 use Rattle.std.proofs.lemmas.Str.{IsUtf8-string_bytes}
 use Rattle.cesu8_text.proofs.reading.Borrowing.{never_borrowed}
 use Rattle.cesu8_text.proofs.reading.LossyBorrowing.{length_of_reading, changed_reading}
+use Rattle.cesu8_decode.specs.Modes.{Keeps}
+use Rattle.cesu8_decode.proofs.chunks.ModeTexts.{known_texts}
 use Rattle.simd_cesu8.proofs.calls.decode_lossy_as.Goals as goal
 
 pub known_text-requires : goal.known_text-requires
-known_text-requires g c = (g.met.A.Accepts.known g.F.Flavor.flavor c.args.bytes.now).is_utf8 c.in_default.ensures.kept
+known_text-requires g c = (known_texts g.A.Accepts.mode g.F.Flavor.flavor c.args.bytes.now).is_utf8 c.in_default.ensures.kept
 
 pub returns-in_default : goal.returns-in_default
 returns-in_default g c =
     let f = g.F.Flavor.flavor in
     let bytes = c.args.bytes.now in
-    let known = g.met.A.Accepts.known f bytes in
+    let known = known_texts g.A.Accepts.mode f bytes in
     let kept = c.in_default.ensures.kept in
     let reads = (known.kept_lossily (chars c.known_text.result.now) kept).1 (ap chars c.known_text.ensures) in
     record {
@@ -38,8 +40,8 @@ returns g c =
     let bytes = c.args.bytes.now in
     let built = string_bytes c.in_ok-built.built in
     let is_utf8 = IsUtf8-string_bytes c.in_ok-built.built in
-    let known = g.met.A.Accepts.known f bytes in
-    let not_kept : ¬ (g.A.Accepts.keeps f bytes) =
+    let known = known_texts g.A.Accepts.mode f bytes in
+    let not_kept : ¬ (Keeps g.A.Accepts.mode f bytes) =
     c.in-Some.ensures.other in
     record {
       reading = ((known.other not_kept).lossily (chars built)).1 c.in_ok-built.ensures.text;
