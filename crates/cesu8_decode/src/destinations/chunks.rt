@@ -10,7 +10,7 @@ ghost use Rattle.cesu8_decode.specs.Decoding.{AppendsReading, AppendsNext, GoesO
 
 use crate::pass::windows::{LARGE_LOSSY, Pass, SMALL_STRICT, write_windows};
 use cesu8_bytes::flavor::Flavor;
-use cesu8_bytes::strictness::{LossyReading, Reading};
+use cesu8_bytes::strictness::{Reading, Strictness};
 use cesu8_bytes::writing::copies::{append, append_zeros};
 use cesu8_bytes::writing::offsets::put;
 
@@ -32,7 +32,7 @@ pub fn append_chunks<F: Flavor, S: Reading>(
     let mut text = before;
     let mut read = 0;
     while read < bytes.len() {
-        let pass = append_next::<F, S>(bytes, read, &mut text);
+        let pass = append_next::<F>(bytes, read, S::strictness(), &mut text);
         S::unless_rejected(pass.is_rejected, ())?;
         read = pass.read;
     }
@@ -43,26 +43,31 @@ pub fn append_chunks<F: Flavor, S: Reading>(
 /// truncates the rest. If the vector has less than `SMALL_STRICT` bytes of spare capacity, the text
 /// is written to an array and copied, since the pass also stores bytes after the text.
 #[inline(always)]
-fn append_next<F: Flavor, S: Reading>(bytes: &[u8], read: usize, out: &mut Vec<u8>) -> Pass
+fn append_next<F: Flavor>(
+    bytes: &[u8],
+    read: usize,
+    strictness: Strictness,
+    out: &mut Vec<u8>,
+) -> Pass
     requires pass { IsPass F.flavor bytes.now read × (read < length bytes.now) }
     requires fits { (after : Pass) (old : List ℕ) (new : List ℕ) → after.is_rejected ≡ false
-        → GoesOn F.flavor S.which bytes.now (pass_from read) after old new
+        → GoesOn F.flavor strictness bytes.now (pass_from read) after old new
         → vec_len out.old + after.end ≤ vec_capacity out.old }
-    ensures next { AppendsNext F.flavor S.which bytes.now read result out.old out.new }
+    ensures next { AppendsNext F.flavor strictness bytes.now read result out.old out.new }
     ensures some { read < result.read }
 {
     let start = out.len();
     let spare = out.capacity() - start;
     if spare < SMALL_STRICT {
         let mut written = [0; SMALL_STRICT];
-        let pass = write_windows::<F, S>(bytes, read, &mut written);
+        let pass = write_windows::<F>(bytes, read, strictness, &mut written);
         if !pass.is_rejected {
             append(&written[..pass.end], out);
         }
         return pass;
     }
     append_zeros(spare.min(CLEARED_AT_ONCE), out);
-    let pass = write_windows::<F, S>(bytes, read, &mut out[start..]);
+    let pass = write_windows::<F>(bytes, read, strictness, &mut out[start..]);
     out.truncate(start + pass.end);
     pass
 }
@@ -79,7 +84,7 @@ pub fn put_chunks<F: Flavor>(bytes: &[u8], out: &mut [u8]) -> usize
     let mut written = [0; LARGE_LOSSY];
     let (mut read, mut end) = (0, 0);
     while read < bytes.len() {
-        let pass = write_windows::<F, LossyReading>(bytes, read, &mut written);
+        let pass = write_windows::<F>(bytes, read, Strictness::Lossy, &mut written);
         end = put(&written[..pass.end], out, end);
         read = pass.read;
     }

@@ -5,14 +5,14 @@
 //! written after another. In strict decoding a window with an ill-formed byte is not written.
 
 ghost use Rattle.std.specs.Prelude.{◌≡◌, ℕ, ◌+◌, ◌-◌, ◌≤◌, ◌⊎◌, true, false, length, slice_index};
-ghost use Rattle.cesu8_decode.specs.Decoding.{WritesDecoded, most_written};
+ghost use Rattle.cesu8_decode.specs.Decoding.{WritesDecoded};
 ghost use Rattle.cesu8_decode.specs.DecodedOffsets.{is_boundary_at, window_of};
 
 use crate::lanes::windows::{STEP, window_at};
 use crate::pass::events::{STORED_AFTER, write_events};
 use cesu8_bytes::flavor::Flavor;
 use cesu8_bytes::lanes::class::LANES;
-use cesu8_bytes::strictness::{Reading, Strictness};
+use cesu8_bytes::strictness::{LossyReading, Strictness};
 
 /// The most bytes that are written for one byte: the length of the replacement character.
 pub const WIDEST: usize = 3;
@@ -39,10 +39,11 @@ pub struct Written {
 /// Writes the text of the next `count` bytes and of the rest of a character that begins in them. If
 /// `count` is more than `STEP`, these bytes are the last ones of the input, and zeros follow them.
 #[inline(always)]
-pub fn write_window<F: Flavor, S: Reading>(
+pub fn write_window<F: Flavor>(
     bytes: &[u8],
     at: usize,
     count: usize,
+    strictness: Strictness,
     out: &mut [u8],
     end: usize,
 ) -> Written
@@ -50,8 +51,8 @@ pub fn write_window<F: Flavor, S: Reading>(
     requires boundary { is_boundary_at F.flavor (window_of bytes.now) at ≡ true }
     requires count { (count ≤ STEP) ⊎ ((count ≤ LANES)
         × ((i : ℕ) → at + count ≤ i → slice_index bytes.now i ≡ 0)) }
-    requires room { end + most_written S.which LANES + STORED_AFTER ≤ length out.old }
-    ensures written { WritesDecoded F.flavor S.which (window_of bytes.now) at result.read
+    requires room { end + ROOM ≤ length out.old }
+    ensures written { WritesDecoded F.flavor strictness (window_of bytes.now) at result.read
         end out.old out.new result.end result.is_rejected }
     ensures boundary { is_boundary_at F.flavor (window_of bytes.now) (at + result.read) ≡ true }
     ensures count { (count ≤ result.read) × (result.read ≤ count + READ_AFTER) × (result.read ≤ LANES) }
@@ -59,7 +60,7 @@ pub fn write_window<F: Flavor, S: Reading>(
     ensures unchanged { result.is_unchanged ≡ true → result.is_rejected ≡ false }
 {
     let window = window_at::<F>(bytes, at, count);
-    if window.ill_formed != 0 && matches!(S::strictness(), Strictness::Strict) {
+    if window.ill_formed != 0 && matches!(strictness, Strictness::Strict) {
         return Written {
             read: window.len,
             end,
@@ -69,7 +70,7 @@ pub fn write_window<F: Flavor, S: Reading>(
     }
     Written {
         read: window.len,
-        end: write_events::<F, S>(bytes, at, window, out, end),
+        end: write_events::<F, LossyReading>(bytes, at, window, out, end),
         is_rejected: false,
         is_unchanged: window.ill_formed | window.pairs | window.nulls == 0,
     }

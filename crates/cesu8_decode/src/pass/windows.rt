@@ -6,6 +6,7 @@
 //! an array, with zeros after them.
 
 ghost use Rattle.std.specs.Prelude.{◌≡◌, ℕ, ◌+◌, ◌-◌, ◌*◌, ◌<◌, ◌≤◌, false, length};
+ghost use Rattle.cesu8_bytes.specs.declared.strictness.Strictness.{Strictness as AnyStrictness};
 ghost use Rattle.cesu8_decode.specs.Decoding.{IsPass, GoesOn, WritesReading, pass_from, room_for};
 
 use super::window::{READ_AFTER, ROOM, WIDEST, write_window};
@@ -17,7 +18,7 @@ use cesu8_bytes::flavor::Flavor;
 use cesu8_bytes::lanes::class::LANES;
 use cesu8_bytes::lanes::short::{are_short, copy_short};
 use cesu8_bytes::pairs::{PAIR, PAIR_READ, PAIR_UTF8, is_pair, utf8_of_pair};
-use cesu8_bytes::strictness::Reading;
+use cesu8_bytes::strictness::{Reading, Strictness};
 use cesu8_bytes::writing::offsets::put;
 
 // The lengths of buffers: for the longest text of so many bytes (`strategy`), and `ROOM` more,
@@ -56,21 +57,26 @@ pub struct Pass {
 /// another window. It stops at a window that strict decoding rejects. It is not inlined, since it
 /// has many callers.
 #[inline(never)]
-pub fn write_windows<F: Flavor, S: Reading>(bytes: &[u8], read: usize, out: &mut [u8]) -> Pass
+pub fn write_windows<F: Flavor>(
+    bytes: &[u8],
+    read: usize,
+    strictness: Strictness,
+    out: &mut [u8],
+) -> Pass
     requires pass { IsPass F.flavor bytes.now read }
     requires room { ROOM ≤ length out.old }
-    ensures more { GoesOn F.flavor S.which bytes.now (pass_from read) result out.old out.new }
+    ensures more { GoesOn F.flavor strictness bytes.now (pass_from read) result out.old out.new }
     ensures some { read < length bytes.now → read < result.read }
-    ensures all { read ≡ 0 → room_for S.which (length bytes.now) ≤ length out.old
+    ensures all { read ≡ 0 → room_for strictness (length bytes.now) ≤ length out.old
         → result.is_rejected ≡ false → result.read ≡ length bytes.now }
 {
     let limit = out.len() - ROOM;
-    let pairs = write_pairs::<F, S>(bytes, read, limit, out);
-    let pass = write_in_place::<F, S>(bytes, pairs, limit, out);
+    let pairs = write_pairs::<F>(bytes, read, limit, out);
+    let pass = write_in_place::<F>(bytes, pairs, strictness, limit, out);
     if pass.is_rejected || pass.end > limit || pass.read == bytes.len() {
         return pass;
     }
-    write_last::<F, S>(bytes, pass, limit, out)
+    write_last::<F>(bytes, pass, strictness, limit, out)
 }
 
 /// Writes the text of all bytes to a buffer with enough space and returns its length, or returns an
@@ -81,22 +87,18 @@ pub fn write_all<F: Flavor, S: Reading>(bytes: &[u8], out: &mut [u8]) -> Result<
     requires { room_for S.which (length bytes.now) ≤ length out.old }
     ensures { WritesReading F.flavor S.which bytes.now result out.old out.new }
 {
-    let pass = write_windows::<F, S>(bytes, 0, out);
+    let pass = write_windows::<F>(bytes, 0, S::strictness(), out);
     S::unless_rejected(pass.is_rejected, pass.end)
 }
 
 /// Writes the surrogate pairs that come next, one after another. If the text is mostly surrogate
 /// pairs, this is faster than windows.
 #[inline(always)]
-fn write_pairs<F: Flavor, S: Reading>(
-    bytes: &[u8],
-    read: usize,
-    limit: usize,
-    out: &mut [u8],
-) -> Pass
+fn write_pairs<F: Flavor>(bytes: &[u8], read: usize, limit: usize, out: &mut [u8]) -> Pass
     requires pass { IsPass F.flavor bytes.now read }
     requires room { limit + ROOM ≤ length out.old }
-    ensures more { GoesOn F.flavor S.which bytes.now (pass_from read) result out.old out.new }
+    ensures more { (which : AnyStrictness)
+        → GoesOn F.flavor which bytes.now (pass_from read) result out.old out.new }
     ensures fine { result.is_rejected ≡ false }
 {
     // The loop ends at the last pair that the buffer has space for, so that it need not test the
@@ -118,9 +120,10 @@ fn write_pairs<F: Flavor, S: Reading>(
 
 /// Writes windows that are read in place, until the last bytes or as long as there is space.
 #[inline(always)]
-fn write_in_place<F: Flavor, S: Reading>(
+fn write_in_place<F: Flavor>(
     bytes: &[u8],
     before: Pass,
+    strictness: Strictness,
     limit: usize,
     out: &mut [u8],
 ) -> Pass
@@ -128,7 +131,7 @@ fn write_in_place<F: Flavor, S: Reading>(
     requires fine { before.is_rejected ≡ false }
     requires end { before.end ≤ length out.old }
     requires room { limit + ROOM ≤ length out.old }
-    ensures more { GoesOn F.flavor S.which bytes.now before result out.old out.new }
+    ensures more { GoesOn F.flavor strictness bytes.now before result out.old out.new }
     ensures fresh { result.read ≡ before.read → result.is_rejected ≡ false }
     ensures last { result.is_rejected ≡ false → result.end ≤ limit
         → length bytes.now < result.read + IN_PLACE }
@@ -136,7 +139,7 @@ fn write_in_place<F: Flavor, S: Reading>(
     let mut pass = before;
     let mut was_unchanged = false;
     while !pass.is_rejected && pass.end <= limit && bytes.len() - pass.read >= IN_PLACE {
-        let window = write_window::<F, S>(bytes, pass.read, STEP, out, pass.end);
+        let window = write_window::<F>(bytes, pass.read, STEP, strictness, out, pass.end);
         pass = Pass {
             read: pass.read + window.read,
             end: window.end,
@@ -145,7 +148,7 @@ fn write_in_place<F: Flavor, S: Reading>(
         // After two successive windows without an event, a test for a longer unchanged run is
         // faster.
         if was_unchanged && window.is_unchanged && pass.end <= limit {
-            pass = copy_unchanged::<F, S>(bytes, pass, limit, out);
+            pass = copy_unchanged::<F>(bytes, pass, limit, out);
         }
         was_unchanged = window.is_unchanged;
     }
@@ -155,17 +158,13 @@ fn write_in_place<F: Flavor, S: Reading>(
 /// Copies the next characters that are unchanged in UTF-8, up to the first that is not, or as many
 /// as there is space for.
 #[inline(always)]
-fn copy_unchanged<F: Flavor, S: Reading>(
-    bytes: &[u8],
-    before: Pass,
-    limit: usize,
-    out: &mut [u8],
-) -> Pass
+fn copy_unchanged<F: Flavor>(bytes: &[u8], before: Pass, limit: usize, out: &mut [u8]) -> Pass
     requires pass { IsPass F.flavor bytes.now before.read }
     requires fine { before.is_rejected ≡ false }
     requires end { before.end ≤ limit }
     requires room { limit ≤ length out.old }
-    ensures more { GoesOn F.flavor S.which bytes.now before result out.old out.new }
+    ensures more { (which : AnyStrictness)
+        → GoesOn F.flavor which bytes.now before result out.old out.new }
     ensures fine { result.is_rejected ≡ false }
 {
     let rest = &bytes[before.read..];
@@ -184,9 +183,10 @@ fn copy_unchanged<F: Flavor, S: Reading>(
 /// Writes the windows of the last bytes, as long as there is space. These bytes and the five before
 /// them are copied to an array first.
 #[inline(always)]
-fn write_last<F: Flavor, S: Reading>(
+fn write_last<F: Flavor>(
     bytes: &[u8],
     before: Pass,
+    strictness: Strictness,
     limit: usize,
     out: &mut [u8],
 ) -> Pass
@@ -195,7 +195,7 @@ fn write_last<F: Flavor, S: Reading>(
     requires fine { before.is_rejected ≡ false }
     requires end { before.end ≤ limit }
     requires room { limit + ROOM ≤ length out.old }
-    ensures more { GoesOn F.flavor S.which bytes.now before result out.old out.new }
+    ensures more { GoesOn F.flavor strictness bytes.now before result out.old out.new }
     ensures some { before.read < result.read }
     ensures all { result.is_rejected ≡ false → result.end ≤ limit → result.read ≡ length bytes.now }
 {
@@ -206,7 +206,7 @@ fn write_last<F: Flavor, S: Reading>(
     while !pass.is_rejected && pass.end <= limit && pass.read < bytes.len() {
         let left = bytes.len() - pass.read;
         let count = if left > LANES { STEP } else { left };
-        let window = write_window::<F, S>(&last, pass.read - first, count, out, pass.end);
+        let window = write_window::<F>(&last, pass.read - first, count, strictness, out, pass.end);
         pass = Pass {
             read: pass.read + window.read,
             end: window.end,

@@ -30,7 +30,7 @@ append_next-pass-requires-clause-fits g c after old new fine more =
     let chunk = take after.end new in
     omega (
       arith,
-      decoded_fits f which bytes _ _ _ (reads_on f which bytes _ _ _ _ _ _ false more refl fine c.loop-read.invariant.text) more.within.1,
+      decoded_fits f which bytes _ _ _ (reads_on f which bytes _ _ _ _ _ _ false (rw c.strictness.ensures at more) refl fine c.loop-read.invariant.text) more.within.1,
       length-append text chunk,
       length-take-le after.end new more.inside,
       c.requires,
@@ -44,7 +44,7 @@ returns-in_err-unless_rejected g c =
     let f = g.F.Flavor.flavor in
     let which = g.S.Reading.which in
     let bytes = c.args.bytes.now in
-    let more = c.append_next-pass.ensures.next.more in
+    let more = rw c.strictness.ensures at c.append_next-pass.ensures.next.more in
     let refused = some_rejected which _ c.in_err-unless_rejected.ensures in
     none_appended f which bytes c.args.before _ c.from_residual.ensures.0
     (refused_decoded f which bytes _ _ _ (reads_on f which bytes _ _ _ _ _ _ true more refl refused c.loop-read.invariant.text) more.within.1)
@@ -54,7 +54,7 @@ loop-read-preserved g c =
     let f = g.F.Flavor.flavor in
     let which = g.S.Reading.which in
     let bytes = c.args.bytes.now in
-    let next = c.append_next-pass.ensures.next in
+    let next = rw c.strictness.ensures at c.append_next-pass.ensures.next in
     let inv = c.loop-read.invariant in
     let fine = none_rejected f which _ _ _ _ _ _ (reads_on f which bytes _ _ _ _ _ _ _ next.more refl refl inv.text) c.in_ok-unless_rejected.ensures.0 in
     record {

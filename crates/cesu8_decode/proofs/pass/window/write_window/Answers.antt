@@ -12,8 +12,8 @@ pub returns-then-matches-clause-written : goal.returns-then-matches-clause-writt
 returns-then-matches-clause-written g c =
     let f = g.F.Flavor.flavor in
     let bytes = c.args.bytes.now in
-    let strict : g.S.Reading.which ≡ Strict = search rules in
-    writes_none f g.S.Reading.which (window_of bytes) c.args.out.now c.args.at _ c.args.end strict
+    let strict : c.args.strictness ≡ Strict = search rules in
+    writes_none f c.args.strictness (window_of bytes) c.args.out.now c.args.at _ c.args.end strict
     (found_in_window f bytes c.args.at _ c.window_at-window.ensures.window.0 c.if-window-ne0.true)
 
 pub returns-then-matches-clause-last : goal.returns-then-matches-clause-last
@@ -25,8 +25,8 @@ pub returns-clause-written : goal.returns-clause-written
 returns-clause-written g c =
     let f = g.F.Flavor.flavor in
     let bytes = c.args.bytes.now in
-    let none : g.S.Reading.which ≡ Strict → c.window_at-window.result.ill_formed ≡ 0 = search rules in
-    writes_decoded f g.S.Reading.which (window_of bytes) _ c.args.out.now c.write_events.new.out c.args.at _ c.args.end c.write_events.result false refl
+    let none : c.args.strictness ≡ Strict → c.window_at-window.result.ill_formed ≡ 0 = search rules in
+    writes_decoded f c.args.strictness (window_of bytes) _ c.args.out.now c.write_events.new.out c.args.at _ c.args.end c.write_events.result false refl
     (λ strict i from to. none_in_window f bytes c.args.at _ c.window_at-window.ensures.window.0 (none strict) i from to)
     refl c.write_events.ensures
 

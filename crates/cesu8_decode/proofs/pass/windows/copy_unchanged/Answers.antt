@@ -7,9 +7,8 @@ use Rattle.cesu8_decode.proofs.decoder.Passes.{pass_at, front_goes_on}
 use Rattle.cesu8_decode.proofs.pass.windows.copy_unchanged.Goals as goal
 
 pub returns-clause-more : goal.returns-clause-more
-returns-clause-more g c =
+returns-clause-more g c which =
     let f = g.F.Flavor.flavor in
-    let which = g.S.Reading.which in
     let bytes = c.args.bytes.now in
     let before = c.args.before in
     let len = c.longest_prefix-len.result in

@@ -10,7 +10,7 @@ returns g c =
     let f = g.F.Flavor.flavor in
     let which = g.S.Reading.which in
     let bytes = c.args.bytes.now in
-    let pass = c.write_windows-pass.ensures in
+    let pass = rw c.strictness.ensures at c.write_windows-pass.ensures in
     writes_reading f which bytes _ _ _ _ _
     (reads_on f which bytes _ _ _ _ [] [] _ pass.more refl refl (none_decoded f which (window_of bytes) []))
     pass.more.within.1 (pass.all refl c.requires) (omega (arith, pass.more.end)) pass.more.len _ c.unless_rejected.ensures

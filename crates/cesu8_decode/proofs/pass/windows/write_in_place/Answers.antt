@@ -6,7 +6,7 @@ use Rattle.cesu8_decode.proofs.pass.windows.write_in_place.Goals as goal
 
 pub loop-pass-init : goal.loop-pass-init
 loop-pass-init g c = record {
-  more = goes_nowhere g.F.Flavor.flavor g.S.Reading.which c.args.bytes.now c.args.before c.args.out.now (λ _. c.requires.pass) c.requires.pass.within
+  more = goes_nowhere g.F.Flavor.flavor c.args.strictness c.args.bytes.now c.args.before c.args.out.now (λ _. c.requires.pass) c.requires.pass.within
       c.requires.fine c.requires.end;
   fresh = λ _. c.requires.fine;
 }
@@ -21,7 +21,7 @@ loop-pass-preserved g c =
     let so_far = c.loop-pass.invariant.more in
     let window = c.write_window-window.ensures in
     record {
-      more = window_goes_on g.F.Flavor.flavor g.S.Reading.which c.args.bytes.now c.args.before c.loop-pass.pass _ _ _ _ _ _ so_far (search rules) (search rules)
+      more = window_goes_on g.F.Flavor.flavor c.args.strictness c.args.bytes.now c.args.before c.loop-pass.pass _ _ _ _ _ _ so_far (search rules) (search rules)
           window.boundary window.written (search rules);
       fresh = λ same. absurd (omega (arith, same, so_far.within.0, window.count.0));
     }
@@ -29,12 +29,17 @@ loop-pass-preserved g c =
 pub loop-pass-preserved-then-pass-limit-2 : goal.loop-pass-preserved-then-pass-limit-2
 loop-pass-preserved-then-pass-limit-2 g c =
     let f = g.F.Flavor.flavor in
-    let which = g.S.Reading.which in
+    let which = c.args.strictness in
     let bytes = c.args.bytes.now in
     let window = c.write_window-window.ensures in
     let written = window_goes_on f which bytes c.args.before c.loop-pass.pass _ _ _ _ _ _ c.loop-pass.invariant.more (search rules) (search rules)
     window.boundary window.written (search rules) in
     record {
-      more = goes_further f which bytes c.args.before _ _ _ _ _ written (window.unchanged c.if-window.true) c.copy_unchanged-pass.ensures.more;
+      more = goes_further f which bytes c.args.before _ _ _ _ _ written (window.unchanged c.if-window.true) (c.copy_unchanged-pass.ensures.more which);
       fresh = λ same. c.copy_unchanged-pass.ensures.fine;
     }
+
+pub loop-pass-smaller-then-pass-limit-2 : goal.loop-pass-smaller-then-pass-limit-2
+loop-pass-smaller-then-pass-limit-2 g c =
+    let more = c.copy_unchanged-pass.ensures.more c.args.strictness in
+    omega (arith, more.within.0, c.write_window-window.ensures.count.0, c.if-bytes-pass-ge-IN_PLACE.true)

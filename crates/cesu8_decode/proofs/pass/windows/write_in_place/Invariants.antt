@@ -10,6 +10,6 @@ decreases-loop-pass g l = length l.fn.bytes - l.pass.read
 
 abbrev pub invariant-loop-pass : goal.invariant-loop-pass
 invariant-loop-pass g l = record {
-  more : GoesOn g.F.Flavor.flavor g.S.Reading.which l.fn.bytes l.fn.before l.pass l.initial.out l.out;
+  more : GoesOn g.F.Flavor.flavor l.fn.strictness l.fn.bytes l.fn.before l.pass l.initial.out l.out;
   fresh : l.pass.read ≡ l.fn.before.read → l.pass.is_rejected ≡ false;
 }

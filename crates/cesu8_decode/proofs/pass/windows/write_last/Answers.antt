@@ -14,7 +14,7 @@ use Rattle.cesu8_decode.proofs.pass.windows.write_last.Goals.{then-left-gt-LANES
 
 pub loop-pass-init : goal.loop-pass-init
 loop-pass-init g c = record {
-  more = goes_nowhere g.F.Flavor.flavor g.S.Reading.which c.args.bytes.now c.args.before c.args.out.now (λ _. c.requires.pass.0) c.requires.pass.0.within
+  more = goes_nowhere g.F.Flavor.flavor c.args.strictness c.args.bytes.now c.args.before c.args.out.now (λ _. c.requires.pass.0) c.requires.pass.0.within
       c.requires.fine (omega (arith, c.requires.end, c.requires.room));
   fresh = λ _. (c.requires.fine, c.requires.end);
 }
@@ -60,7 +60,7 @@ write_window-window-requires-clause-count g c =
 pub loop-pass-preserved : goal.loop-pass-preserved
 loop-pass-preserved g c =
     let f = g.F.Flavor.flavor in
-    let which = g.S.Reading.which in
+    let which = c.args.strictness in
     let bytes = c.args.bytes.now in
     let last = c.copy_short.new.buf in
     let first = c.saturating_sub-first.result in
