@@ -4,6 +4,7 @@ pub mod MaskTests
 pub mod ThreeMasks
 pub mod FormMasks
 pub mod MaskCounts
+pub mod MaskReturns
 pub mod CoveredMasks
 pub mod WindowMasks
 pub mod FirstLanes
@@ -14,6 +15,7 @@ pub mod WindowEnds
 pub mod BlocksInPlace
 pub mod Passes
 pub mod PaddedWindows
+pub mod WindowReturns
 pub mod EventBits
 pub mod EventsDecoded
 pub mod Events

@@ -20,6 +20,7 @@ use std::simd::prelude::*;
 
 /// Returns the length of the strictly decoded text in bytes, or `None` if a byte is ill-formed. The
 /// unchanged prefix is as long in UTF-8, so only the bytes after it are counted.
+#[tactic(auto, using(crate::proofs::chunks::SliceReadings::strict_no_longer))]
 pub fn decoded_len<F: Flavor>(bytes: &[u8]) -> Option<usize>
     ensures some { IfSome result (λ len.
         ReadsAtLength (IsStrictReading F.flavor bytes.now) (λ text_len. len ≡ text_len)) }

@@ -1,5 +1,5 @@
 -- How many bytes offsets save, by how many bits of each mask are set.
-use Rattle.std.proofs.Common.{◌≡◌, ℕ, zero, suc, ◌+◌, ◌-◌, ◌*◌, ◌/◌, ◌^◌, ◌<◌, ◌≤◌, Bool, cond, true, false, not, eqb, ⊎_elim, List, ◌++◌, map, drop, replicate, length, get_or, count_by, count_ones, refl, ap, sym, ◌∙◌, arith, add-zero, zero-add, suc-add}
+use Rattle.std.proofs.Common.{◌≡◌, ℕ, zero, suc, ◌+◌, ◌-◌, ◌*◌, ◌/◌, ◌^◌, ◌<◌, ◌≤◌, Bool, cond, true, false, not, eqb, ⊎_elim, List, ◌++◌, map, drop, replicate, length, get_or, count_by, count_ones, refl, ap, sym, subst, ◌∙◌, arith, add-zero, zero-add, suc-add}
 use Rattle.std.specs.List.{range_with_len}
 use Rattle.std.proofs.lemmas.Bool.Decides.{nat_tests}
 use Rattle.std.proofs.lemmas.List.Sums.{sum_by-cons}
@@ -112,6 +112,28 @@ saved_by_masks f bytes k n masks are =
       omega (arith, sums.0, sums.2, others, twos, threes, pairs, nulls),
       λ none. omega (arith, sums.0, sums.1, others, none),
     )
+
+-- The same as lemmas that `saved_by_lanes` cites by `using`.
+module _ (f : Flavor) (bytes : List ℕ) (k n : ℕ) (masks : Masks) (m : ℕ) (are : AreMasks f bytes 0 m masks) (all : m ≡ k + n) where
+  sums : (count_ones (masks.others / 2 ^ k) ≤ n)
+      × (2 * (n - count_ones (masks.others / 2 ^ k)) + 4 * count_ones (masks.twos / 2 ^ k) + 6 * count_ones (masks.threes / 2 ^ k) + 14 * count_ones (masks.pairs / 2 ^ k)
+      + 5 * count_ones (masks.nulls / 2 ^ k) ≡ saved_between f bytes k n)
+      × (count_ones (masks.others / 2 ^ k) ≡ 0 → 2 * n ≡ saved_between f bytes k n)
+  sums = saved_by_masks f bytes k n masks (subst (λ i. AreMasks f bytes 0 i masks) all are)
+
+  pub saved_if_others : saved_between f bytes k n
+      ≡ 2 * (n - count_ones (masks.others / 2 ^ k)) + 4 * count_ones (masks.twos / 2 ^ k) + 6 * count_ones (masks.threes / 2 ^ k) + 14 * count_ones (masks.pairs / 2 ^ k)
+      + 5 * count_ones (masks.nulls / 2 ^ k)
+  saved_if_others = sym sums.1
+
+  pub saved_if_none : count_ones (masks.others / 2 ^ k) ≡ 0 → saved_between f bytes k n ≡ 2 * n
+  saved_if_none none = sym (sums.2 none)
+
+pub others_within : (k : ℕ) (masks : Masks) (f : Flavor) (bytes : List ℕ) (m : ℕ) → AreMasks f bytes 0 m masks → k ≤ m → count_ones (masks.others / 2 ^ k) + k ≤ m
+others_within k masks f bytes m are small =
+    omega (arith, sums f bytes k (m - k) masks m are (omega arith))
+
+pub ruleset counts_of_masks = (saved_if_others, saved_if_none, others_within)
 
 -- ---- vectors of bytes
 

@@ -79,6 +79,7 @@ pub fn masks_of<F: Flavor, const N: usize>(lanes: Simd<u8, N>, count: usize) -> 
 
 /// Returns the lowest `count` bits.
 #[inline(always)]
+#[tactic(auto, using(crate::proofs::decoder::MaskReturns::first_bits_returned))]
 fn first_bits(count: usize) -> u64
     requires { count ≤ LANES }
     ensures { HasBits result (λ i. nat_lt i count) }
@@ -102,6 +103,7 @@ fn bits_below<const N: usize>(lanes: Simd<u8, N>, below: u8) -> u64
 
 /// Returns a mask of the bytes 00 in MUTF-8, in which 00 is not a character.
 #[inline(always)]
+#[tactic(auto, using(crate::proofs::decoder::MaskReturns::null_bytes_returned))]
 fn null_bytes<F: Flavor, const N: usize>(lanes: Simd<u8, N>) -> u64
     requires { N ≤ LANES }
     ensures { HasBits result (λ i. nat_lt i N && is_null F.flavor (slice_index lanes.entry i)) }
@@ -115,6 +117,7 @@ fn null_bytes<F: Flavor, const N: usize>(lanes: Simd<u8, N>) -> u64
 
 /// Returns the offsets at which C0 80 begins in MUTF-8. `below_c2` marks C0 and C1.
 #[inline(always)]
+#[tactic(auto, using(crate::proofs::decoder::MaskReturns::nulls_returned))]
 fn nulls_of<F: Flavor, const N: usize>(lanes: Simd<u8, N>, below_c2: u64) -> u64
     requires lanes { N ≤ LANES }
     requires below_c2 { HasBits below_c2 (λ i. nat_le 0xC0 (slice_index lanes i)

@@ -18,6 +18,7 @@ use std::simd::prelude::*;
 
 /// Returns what at most 64 bytes save.
 #[inline(always)]
+#[tactic(auto, using(crate::proofs::decoder::MaskReturns::saved_with_zeros))]
 pub fn saved_in_short<F: Flavor>(bytes: &[u8]) -> usize
     requires { length bytes.now ≤ LANES }
     ensures { result ≡ total_saved F.flavor bytes.now }
@@ -30,6 +31,7 @@ pub fn saved_in_short<F: Flavor>(bytes: &[u8]) -> usize
 
 /// Returns what the last `count` offsets save, from a vector of the last 64 bytes.
 #[inline(always)]
+#[tactic(auto, using(crate::proofs::decoder::MaskCounts::saved_in_last))]
 pub fn saved_by_last<F: Flavor>(bytes: &[u8], count: usize) -> usize
     requires { (0 < count) × (count ≤ LANES) × (LANES ≤ length bytes.now) }
     ensures { result ≡ total_saved F.flavor (drop (length bytes.now - count) bytes.now) }
@@ -41,6 +43,7 @@ pub fn saved_by_last<F: Flavor>(bytes: &[u8], count: usize) -> usize
 /// Returns what `count` offsets save, after the first `counted`. The lanes count as followed by
 /// zeros.
 #[inline(always)]
+#[tactic(auto, using(crate::proofs::decoder::MaskCounts::counts_of_masks))]
 pub fn saved_by_lanes<F: Flavor, const N: usize>(
     lanes: Simd<u8, N>,
     counted: usize,

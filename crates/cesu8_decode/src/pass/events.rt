@@ -123,6 +123,7 @@ fn write_in_turn<F: Flavor, S: Reading>(
 /// Copies `count` bytes, at most 64, from an offset on, and returns their end. It always stores 64
 /// bytes, so that no branch depends on the count.
 #[inline(always)]
+#[tactic(auto, using(crate::proofs::decoder::WindowReturns::copied_between))]
 fn copy_between(bytes: &[u8], at: usize, count: usize, out: &mut [u8], end: usize) -> usize
     requires count { count ≤ LANES }
     requires bytes { at + LANES ≤ length bytes.now }

@@ -1,14 +1,15 @@
 -- The text is the unchanged prefix and then the text of the rest, so its length is the sum. If no
 -- byte of the rest is ill-formed, its strict reading is its lossy one, which is no longer than it.
-use Rattle.std.proofs.Common.{◌≡◌, ◌+◌, ◌<◌, ◌∙◌, sym, arith, length, take, drop, length-drop, length-append}
+use Rattle.std.proofs.Common.{◌≡◌, ℕ, List, ◌<◌, ◌∙◌, sym, ap, arith, length, take, drop, length-drop, length-append}
 use Rattle.std.proofs.lemmas.Bool.{eqb-true, eqb-false, both_ways}
 use Rattle.std.proofs.lemmas.List.{take_rest, length-take-le}
 use Rattle.cesu8_text.specs.Reading.{IsStrictReading, reading, lossy_length}
+use Rattle.cesu8_text.specs.Slices.{ReadsAtLength}
 use Rattle.cesu8_text.specs.Text.{utf8}
 use Rattle.cesu8_text.proofs.reading.KeptTexts.{encoding_texts}
 use Rattle.cesu8_bytes.specs.declared.strictness.Strictness.TheVariants.{Strict}
 use Rattle.cesu8_decode.proofs.chunks.TextAfterPrefix.{unless_begun, none_before, only_after}
-use Rattle.cesu8_decode.proofs.chunks.SliceReadings.{only_kept, of_length, strict_no_longer}
+use Rattle.cesu8_decode.proofs.chunks.SliceReadings.{IsOnlyText, only_kept, of_length}
 use Rattle.cesu8_decode.proofs.chunks.UnchangedPrefixes.{all_unchanged, unchanged_prefix_chunk}
 use Rattle.cesu8_decode.proofs.lengths.decoded_len.Goals as goal
 use Rattle.cesu8_decode.proofs.lengths.decoded_len.Goals.{then-not-begins_changed-via-then-not-begins_changed, then-not-begins_changed-via-else-not-begins_changed+then-is_ill_formed}
@@ -43,27 +44,10 @@ returns-then-not-begins_changed-clause-none g c =
           (rw take_rest at (w.is_ill_formed.ensures.ill_formed w.if-is_ill_formed.true))
     ]
 
--- The length of the strict reading fits `usize`.
-pub returns-in_err-rest_len-clause-none : goal.returns-in_err-rest_len-clause-none
-returns-in_err-rest_len-clause-none g c =
-    let f = g.F.Flavor.flavor in
-    let rest = drop c.unchanged_prefix-prefix.result.len c.args.bytes.now in
-    let short = strict_no_longer f rest (rw take_rest at (c.is_ill_formed.ensures.whole c.if-is_ill_formed.false)) in
-    absurd (omega (arith, short, rw take_rest at c.in_err-rest_len.ensures.none, length-drop c.unchanged_prefix-prefix.result.len c.args.bytes.now))
-
--- The text is no longer than the bytes, so the sum does not overflow.
-pub overflow_add-result : goal.overflow_add-result
-overflow_add-result g c =
-    let f = g.F.Flavor.flavor in
-    let rest = drop c.unchanged_prefix-prefix.result.len c.args.bytes.now in
-    let short = strict_no_longer f rest (rw take_rest at (c.is_ill_formed.ensures.whole c.if-is_ill_formed.false)) in
-    omega (
-      arith,
-      short,
-      rw take_rest at c.in_ok-rest_len.ensures.some,
-      length-drop c.unchanged_prefix-prefix.result.len c.args.bytes.now,
-      c.unchanged_prefix-prefix.ensures.len.within,
-    )
+-- A sum is the length of the only text.
+of_sum : (IsReading : List ℕ → Type 0) (sum : ℕ) (text answer : List ℕ) → IsOnlyText IsReading text answer → sum ≡ length answer →
+    ReadsAtLength IsReading (λ len. sum ≡ len)
+of_sum IsReading sum text answer is same = of_length IsReading (λ len. sum ≡ len) text answer is same
 
 -- No byte is ill-formed: the result is the sum.
 pub returns-clause-some : goal.returns-clause-some
@@ -74,11 +58,11 @@ returns-clause-some g c =
     let n = c.unchanged_prefix-prefix.result.len in
     let rest = drop n bytes in
     let whole = rw take_rest at (c.is_ill_formed.ensures.whole c.if-is_ill_formed.false) in
-    of_length (IsStrictReading f bytes) (λ len. n + c.in_ok-rest_len.rest_len ≡ len) _ _
+    of_sum (IsStrictReading f bytes) _ _ _
     (only_after f bytes rest (take n bytes) (unchanged_prefix_chunk f bytes n c.unchanged_prefix-prefix.ensures.len Strict) (reading f rest) whole)
-    (omega (
+    (grind (
       arith,
-      rw take_rest at c.in_ok-rest_len.ensures.some,
+      ap (lossy_length f) (take_rest bytes n),
       length-append (take n bytes) (utf8 (reading f rest)),
       length-take-le n bytes c.unchanged_prefix-prefix.ensures.len.within,
     ))

@@ -1,56 +1,51 @@
 -- Four bytes are stored in either case. All four are the UTF-8 of a pair, and the first alone, 00,
 -- that of C0 80.
-use Rattle.std.proofs.Common.{rules, ◌≡◌, ℕ, ◌+◌, ◌<◌, [], ◌∷◌, length, get_or, ap, sym, ◌∙◌, subst, arith, w32}
+use Rattle.std.proofs.Common.{rules, ◌≡◌, ℕ, ◌+◌, ◌<◌, ◌≤◌, Bool, true, false, [], ◌∷◌, List, length, get_or, drop, ap, ◌∙◌, subst, arith, refl, w32}
 use Rattle.std.specs.Int.{to_le_bytes}
 use Rattle.std.proofs.lemmas.List.{take_rest}
 use Rattle.std.proofs.lemmas.Nat.{le_bytes_4}
+use Rattle.cesu8_text.specs.Encoding.{Flavor}
+use Rattle.cesu8_bytes.specs.Pairs.{IsUtf8OfDigits, second_third_fifth_sixth}
 use Rattle.cesu8_bytes.specs.Puts.{WritesAt}
 use Rattle.cesu8_bytes.proofs.lists.Stored.{first_written}
 use Rattle.cesu8_decode.specs.DecodedOffsets.{decoded, window_of, width_at}
+use Rattle.cesu8_decode.specs.Masks.{is_null_at, is_pair_at}
 use Rattle.cesu8_decode.proofs.decoder.EventsDecoded.{pair_begins, pair_at_decoded, pair_wide, null_at_decoded, null_wide}
 use Rattle.cesu8_decode.proofs.pass.events.write_changed.Goals as goal
-use Rattle.cesu8_decode.proofs.pass.events.write_changed.Goals.{then-is_null, else-is_null}
 
 pub returns-clause-width : goal.returns-clause-width
 returns-clause-width g c =
     let f = g.F.Flavor.flavor in
     let bytes = c.args.bytes.now in
     let at = c.args.at in
-    let wide : c.if-is_null.len.0 ≡ width_at f bytes at = elim c.if-is_null.branch [
-      | then-is_null w ↦ ap (λ l. l.0) w.len-is ∙ null_wide f bytes at (omega (arith, c.requires.bytes)) (c.requires.null w.if-is_null.true)
-      | else-is_null w ↦ ap (λ l. l.0) w.len-is ∙ pair_wide f bytes at (omega (arith, c.requires.bytes)) (pair_begins f bytes at (c.requires.pair w.if-is_null.false))
-    ] in
-    let some : 0 < c.if-is_null.len.0 = elim c.if-is_null.branch [
-      | then-is_null w ↦ omega (arith, ap (λ l. l.0) w.len-is)
-      | else-is_null w ↦ omega (arith, ap (λ l. l.0) w.len-is)
-    ] in
-    (wide, some)
+    let null : c.args.is_null ≡ true → 2 ≡ width_at f bytes at = λ is. null_wide f bytes at (omega (arith, c.requires.bytes)) (c.requires.null is) in
+    let pair : c.args.is_null ≡ false → 6 ≡ width_at f bytes at = λ is. pair_wide f bytes at (omega (arith, c.requires.bytes)) (pair_begins f bytes at (c.requires.pair is)) in
+    grind (arith, null, pair)
+
+-- What is written in either case, by the three values that are chosen.
+changed_written : (f : Flavor) (bytes four stored old new : List ℕ) (at end m len utf8 written pair : ℕ) (is_null : Bool) → at + 8 ≤ length bytes → end + 4 ≤ length old →
+    (is_null ≡ true → is_null_at f bytes at ≡ true) → (is_null ≡ false → is_pair_at f bytes at ≡ true) →
+    (is_null ≡ true → (len ≡ 2) × (utf8 ≡ 0) × (written ≡ 1)) → (is_null ≡ false → (len ≡ 6) × (utf8 ≡ pair) × (written ≡ 4)) →
+    IsUtf8OfDigits (second_third_fifth_sixth (drop at bytes)) four → length four ≡ 4 → to_le_bytes w32 pair ≡ four →
+    stored ≡ to_le_bytes w32 utf8 → WritesAt stored end old new m → WritesAt (decoded f (window_of bytes) at len) end old new (end + written)
+changed_written f bytes four stored old new at end m len utf8 written pair true inside room null other chosen also is_utf8 long same is writes =
+    let values = chosen refl in
+    rw (values.0, values.2, null_at_decoded f bytes at (omega (arith, inside)) (null refl))
+    (first_written 1 end m (0 ∷ 0 ∷ 0 ∷ 0 ∷ []) old new (omega arith) (omega (arith, room))
+    (subst (λ bs. WritesAt bs end old new m) (is ∙ ap (to_le_bytes w32) values.1) writes))
+changed_written f bytes four stored old new at end m len utf8 written pair false inside room null other chosen also is_utf8 long same is writes =
+    let values = also refl in
+    let begins = pair_begins f bytes at (other refl) in
+    let stored_four = is ∙ ap (to_le_bytes w32) values.1 ∙ same in
+    let is_end : m ≡ end + 4 = omega (arith, writes.end, ap length stored_four, long) in
+    rw (values.0, values.2, pair_at_decoded f bytes at (omega (arith, inside)) begins four is_utf8)
+    (subst (λ bs. WritesAt bs end old new (end + 4)) stored_four (subst (WritesAt stored end old new) is_end writes))
 
 pub returns-clause-written : goal.returns-clause-written
 returns-clause-written g c =
-    let f = g.F.Flavor.flavor in
-    let bytes = c.args.bytes.now in
-    let at = c.args.at in
-    let end = c.args.end in
-    let old = c.args.out.now in
-    let new = c.put.new.out in
-    let writes = c.put.ensures.writes in
     let four = c.utf8_of_pair.result in
     let long : length four ≡ 4 = search rules in
     let byte : (i : ℕ) → get_or four i 0 < 0x100 = λ i. search rules in
-    elim c.if-is_null.branch [
-      | then-is_null w ↦
-          let stored = c.to_le_bytes.ensures ∙ ap (λ l. to_le_bytes w32 l.1) w.len-is in
-          subst (λ l. WritesAt (decoded f (window_of bytes) at l.0) end old new (end + l.2)) (sym w.len-is)
-          (rw (null_at_decoded f bytes at (omega (arith, c.requires.bytes)) (c.requires.null w.if-is_null.true))
-          (first_written 1 end _ (0 ∷ 0 ∷ 0 ∷ 0 ∷ []) old new (omega arith) (omega (arith, c.requires.room))
-          (subst (λ bs. WritesAt bs end old new c.put.result) stored writes)))
-      | else-is_null w ↦
-          let begins = pair_begins f bytes at (c.requires.pair w.if-is_null.false) in
-          let stored =
-          c.to_le_bytes.ensures ∙ ap (λ l. to_le_bytes w32 l.1) w.len-is ∙ le_bytes_4 four _ long byte c.from_le_bytes-pair.ensures in
-          let is_end : c.put.result ≡ end + 4 = omega (arith, writes.end, ap length stored, long) in
-          subst (λ l. WritesAt (decoded f (window_of bytes) at l.0) end old new (end + l.2)) (sym w.len-is)
-          (rw (pair_at_decoded f bytes at (omega (arith, c.requires.bytes)) begins four (rw take_rest at c.utf8_of_pair.ensures))
-          (subst (λ bs. WritesAt bs end old new (end + 4)) stored (subst (WritesAt c.to_le_bytes.result end old new) is_end writes)))
-    ]
+    changed_written g.F.Flavor.flavor c.args.bytes.now four _ _ _ c.args.at c.args.end _ _ _ _ _ c.args.is_null (omega (arith, c.requires.bytes)) (omega (arith, c.requires.room))
+    c.requires.null c.requires.pair (λ null. grind arith) (λ pair. grind arith)
+    (rw take_rest at c.utf8_of_pair.ensures) long (le_bytes_4 four _ long byte c.from_le_bytes-pair.ensures) c.to_le_bytes.ensures c.put.ensures.writes
