@@ -44,6 +44,8 @@ export CARGO_NET_OFFLINE=true
 version=$(<"$top/VERSION")
 packages=$scratch/packages
 crate=$packages/cesu8_rattle-$version
+# What rustc takes for the level x86-64-v3.
+v3_flags='-C target-cpu=x86-64-v3'
 # Runs cargo in the crate: `in_crate ARGUMENT..`. What is built is kept in $scratch/NAME of
 # `target`. What cargo writes for a debugger and for later builds would double the time of a debug build.
 in_crate() {
@@ -125,22 +127,23 @@ test_levels() {
 }
 
 # Builds other forms of the crate. That for x86-64-v3 takes least, so it is the one that is compared
-# with the library for C, if this processor has its level.
+# with the library for C, if this processor has its level. Its assembly is also written, for
+# `look_at_assembly`. Tests of the other forms run long, so these are optimized a little.
 test_forms() {
     local compared=(test --release --test c_library --test cases --test surface)
-    local flags='-C target-cpu=x86-64-v3'
+    local flags="$v3_flags --emit asm"
     [[ -n ${CESU8_LIBRARY-} ]] ||
         echo 'RELEASE is not set: the Rust crate not compared with the library for C'
     if ! grep -q '\bavx2\b' /proc/cpuinfo; then
         flags=''
     fi
     target=v3 RUSTFLAGS=$flags in_crate "${compared[@]}" || wrong 'the build for x86-64-v3'
-    target=v2 RUSTFLAGS='--cfg cesu8_level="v2"' in_crate test --lib -- level public_calls ||
-        wrong 'the build without v3'
+    CARGO_PROFILE_TEST_OPT_LEVEL=1 target=v2 RUSTFLAGS='--cfg cesu8_level="v2"' \
+        in_crate test --lib -- level public_calls || wrong 'the build without v3'
     target=none in_crate check --no-default-features || wrong 'the build without std'
     target=simdutf8 in_crate test --features simdutf8 --test cases || wrong 'the feature simdutf8'
-    target=plain RUSTFLAGS='--cfg cesu8_level="plain"' in_crate test --tests ||
-        wrong 'the plain form'
+    CARGO_PROFILE_TEST_OPT_LEVEL=1 target=plain RUSTFLAGS='--cfg cesu8_level="plain"' \
+        in_crate test --tests || wrong 'the plain form'
     pass
 }
 
@@ -204,7 +207,7 @@ test_users() {
     run_user one_line 'a program with the one line' run --release
     user_package patched 'simd_cesu8 = "1"' '' '[patch.crates-io]' \
         "simd_cesu8 = { path = \"$packages/simd_cesu8-1.2.0\" }"
-    run_user patched 'a program with [patch.crates-io]' run --release
+    run_user patched 'a program with [patch.crates-io]' run
     user_package both "$line" \
         "other = { package = \"simd_cesu8\", path = \"$packages/simd_cesu8-1.2.0\" }"
     run_user both 'two packages in one program' check
@@ -252,7 +255,9 @@ look_at_assembly() {
         echo 'not x86-64: the assembly skipped'
         return
     fi
-    target=v3 RUSTFLAGS='-C target-cpu=x86-64-v3' in_crate rustc --release --lib -- --emit asm ||
+    # On a processor without AVX2 there is no such build yet.
+    grep -q '\bavx2\b' /proc/cpuinfo ||
+        target=v3 RUSTFLAGS="$v3_flags --emit asm" in_crate build --release ||
         wrong 'the assembly for x86-64-v3'
     awk '/^[_A-Za-z].*:/ { is_pass = /write_windows/; passes += is_pass }
         is_pass && /vpinsrb/ { print; found = 1 }

@@ -1,35 +1,50 @@
 //! How the errors display.
 
-use simd_cesu8::{DecodeFault, encode_to_slice};
+use crate::asserts::assert_of;
+use simd_cesu8::{DecodeFault, DecodingError, encode_to_slice};
 use std::alloc::{AllocError, Global};
 use std::error::Error;
-use std::test::Fail;
+use std::process::Abort;
 use test_cases::flavors::{Flavor, decode};
 
+/// Whether a text was written, and is these words.
+fn is_written(text: &Result<String, AllocError>, words: &str) -> bool {
+    match text {
+        Ok(text) => text.as_str() == words,
+        Err(_) => false,
+    }
+}
+
 /// Whether an error displays as these words, with and without a width.
-fn shows<E: Error>(alloc: Global, error: &E, words: &str) -> Result<bool, AllocError> {
-    let plain = format!(in alloc; "{error}")?;
-    let wide = format!(in alloc; "{error:>20}")?;
-    Ok(plain.as_str() == words && wide.as_str() == words)
+fn shows<E: Error>(alloc: Global, error: &E, words: &str) -> bool {
+    is_written(&format!(in alloc; "{error}"), words)
+        && is_written(&format!(in alloc; "{error:>20}"), words)
+}
+
+/// Whether an error's debug text is its name, with and without a width.
+fn shows_name(alloc: Global, error: DecodingError) -> bool {
+    is_written(&format!(in alloc; "{error:?}"), "DecodingError")
+        && is_written(&format!(in alloc; "{error:20?}"), "DecodingError")
+}
+
+/// Asserts how the error of invalid input is shown.
+fn assert_invalid(rt: &impl Abort, alloc: Global, error: DecodingError) {
+    let fault = DecodeFault::Invalid(error);
+    assert_of(rt, shows(alloc, &error, "invalid input"), &error);
+    assert_of(rt, shows(alloc, &fault, "invalid input"), &fault);
+    assert_of(rt, shows_name(alloc, error), &error);
 }
 
 #[test]
-fn errors_are_shown(rt: HostRuntime) -> Result<(), Fail> {
-    let Err(DecodeFault::Invalid(error)) = decode(rt.alloc(), Flavor::Cesu8, b"\xFF") else {
-        return Err("FF is decoded".into());
-    };
-    assert!(rt; shows(rt.alloc(), &error, "invalid input")?);
-    let fault = DecodeFault::Invalid(error);
-    assert!(rt; shows(rt.alloc(), &fault, "invalid input")?);
+fn errors_are_shown(rt: HostRuntime) {
+    match decode(rt.alloc(), Flavor::Cesu8, b"\xFF") {
+        Err(DecodeFault::Invalid(error)) => assert_invalid(&rt, rt.alloc(), error),
+        _ => assert_of(&rt, false, &"FF, which is not an error"),
+    }
     let fault = DecodeFault::Memory(AllocError);
-    assert!(rt; shows(rt.alloc(), &fault, "out of memory")?);
-    let fault = encode_to_slice("\u{10400}", &mut [])
-        .err()
-        .ok_or("it fits")?;
-    assert!(rt; shows(rt.alloc(), &fault, "buffer too short")?);
-    let plain = format!(in rt.alloc(); "{error:?}")?;
-    assert_eq!(rt; plain.as_str(), "DecodingError");
-    let wide = format!(in rt.alloc(); "{error:20?}")?;
-    assert_eq!(rt; wide.as_str(), "DecodingError");
-    Ok(())
+    assert_of(&rt, shows(rt.alloc(), &fault, "out of memory"), &fault);
+    match encode_to_slice("\u{10400}", &mut []) {
+        Err(fault) => assert_of(&rt, shows(rt.alloc(), &fault, "buffer too short"), &fault),
+        Ok(_) => assert_of(&rt, false, &"an empty buffer, which is not an error"),
+    }
 }

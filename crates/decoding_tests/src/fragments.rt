@@ -1,10 +1,10 @@
 //! Fragments of characters in random order, compared with the plain decoder. The random numbers are
 //! the same in each run.
 
+use crate::asserts::assert_readings;
 use crate::rows::ROWS;
 use std::alloc::{AllocError, Global};
-use std::test::Fail;
-use test_cases::comparisons::expect_readings;
+use std::process::Abort;
 use test_cases::fills::FILLS;
 
 /// The next random number after one, by Marsaglia's "Xorshift RNGs".
@@ -36,14 +36,19 @@ fn sequence(alloc: Global, seed: u64, pieces: u64, one_of: u64) -> Result<Vec<u8
     Ok(bytes)
 }
 
+/// Asserts what is decoded of 400 sequences.
+fn assert_sequences(rt: &impl Abort, alloc: Global, one_of: u64) {
+    for seed in 0..400u64 {
+        let bytes = sequence(alloc, seed, seed % 25 * (seed % 11), one_of);
+        assert_readings(rt, alloc, &bytes.expect(rt, "a sequence"));
+    }
+}
+
 /// Sequences of rows alone, and of characters with some rows among them.
 #[test]
-fn reads_fragments(rt: HostRuntime) -> Result<(), Fail> {
-    for one_of in [1, 3, 50, 400] {
-        for seed in 0..400 {
-            let bytes = sequence(rt.alloc(), seed, seed % 25 * (seed % 11), one_of)?;
-            expect_readings(rt.alloc(), bytes.as_slice())?;
-        }
-    }
-    Ok(())
+fn reads_fragments(rt: HostRuntime) {
+    assert_sequences(&rt, rt.alloc(), 1);
+    assert_sequences(&rt, rt.alloc(), 3);
+    assert_sequences(&rt, rt.alloc(), 50);
+    assert_sequences(&rt, rt.alloc(), 400);
 }

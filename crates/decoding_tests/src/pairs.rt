@@ -5,93 +5,121 @@
 //! 2 * 128 * 128 have one byte of ASCII and one ill-formed byte, and the rest have two ill-formed
 //! bytes. In MUTF-8, 00 is ill-formed and C0 80 is a character.
 
+use crate::asserts::{assert_of, assert_same};
 use std::alloc::Global;
-use std::test::Fail;
-use test_cases::comparisons::{Difference, expect, expect_outcome};
+use std::process::Abort;
+use test_cases::comparisons::expect_outcome;
 use test_cases::decoders::{Decoder, Outcome};
-use test_cases::flavors::{FLAVORS, Flavor, lossy_len};
+use test_cases::flavors::{Flavor, lossy_len};
 use test_cases::plain::read;
 
 /// The numbers of inputs that are decoded, of those that are borrowed, and of U+FFFD that are
 /// written.
 type Counts = (u32, u32, usize);
 
-/// Compares one call for each input.
-fn count(alloc: Global, decoder: Decoder, flavor: Flavor) -> Result<Counts, Difference> {
-    let (mut read_inputs, mut borrowed, mut damaged) = (0u32, 0u32, 0usize);
-    for pair in 0..=u16::MAX {
-        let bytes = pair.to_be_bytes();
-        let reading = read(alloc, flavor, &bytes)?;
-        let expected = reading.expected(decoder, &bytes);
-        expect_outcome(alloc, decoder, flavor, &bytes, expected)?;
-        match expected {
-            Outcome::Borrowed(_) => {
-                read_inputs = read_inputs.wrapping_add(1);
-                borrowed = borrowed.wrapping_add(1);
-            }
-            Outcome::Owned(_) => {
-                read_inputs = read_inputs.wrapping_add(1);
-                damaged = damaged.wrapping_add(reading.damaged);
-            }
-            _ => {}
-        }
+/// The counts with one more outcome, for input with so many ill-formed bytes.
+fn add((read_inputs, borrowed, marks): Counts, outcome: Outcome<'_>, damaged: usize) -> Counts {
+    match outcome {
+        Outcome::Borrowed(_) => (read_inputs.wrapping_add(1), borrowed.wrapping_add(1), marks),
+        Outcome::Owned(_) => (
+            read_inputs.wrapping_add(1),
+            borrowed,
+            marks.wrapping_add(damaged),
+        ),
+        Outcome::Invalid | Outcome::Memory => (read_inputs, borrowed, marks),
     }
-    Ok((read_inputs, borrowed, damaged))
 }
 
-/// Compares the counts in CESU-8 and in MUTF-8.
-fn expect_counts(alloc: Global, decoder: Decoder, both: [Counts; 2]) -> Result<(), Difference> {
-    for flavor in FLAVORS {
-        let counts = count(alloc, decoder, flavor)?;
-        expect(alloc, flavor, decoder.name(), counts, flavor.of(both))?;
+/// Asserts the outcome of one call for each input, and the counts of all outcomes.
+fn assert_counts(rt: &impl Abort, alloc: Global, decoder: Decoder, flavor: Flavor, due: Counts) {
+    let mut counts = (0, 0, 0);
+    for number in 0..0x10000u32 {
+        let [_, _, first, second] = number.to_be_bytes();
+        let bytes = [first, second];
+        let reading = read(alloc, flavor, &bytes).expect(rt, "a reading");
+        let outcome = reading.expected(decoder, &bytes);
+        let compared = expect_outcome(alloc, decoder, flavor, &bytes, outcome);
+        assert_same(rt, compared, &bytes);
+        counts = add(counts, outcome, reading.damaged);
     }
-    Ok(())
+    assert_of(rt, counts == due, &(decoder, flavor, counts));
 }
 
 #[test]
-fn reads_pairs_strictly(rt: HostRuntime) -> Result<(), Fail> {
-    let both = [(18_304, 18_304, 0), (18_050, 18_049, 0)];
-    Ok(expect_counts(rt.alloc(), Decoder::Strict, both)?)
+fn reads_pairs_strictly(rt: HostRuntime) {
+    let decoder = Decoder::Strict;
+    assert_counts(&rt, rt.alloc(), decoder, Flavor::Cesu8, (18_304, 18_304, 0));
+    assert_counts(&rt, rt.alloc(), decoder, Flavor::Mutf8, (18_050, 18_049, 0));
 }
 
 #[test]
-fn reads_pairs_leniently(rt: HostRuntime) -> Result<(), Fail> {
-    let both = [(18_304, 18_304, 0), (18_305, 18_304, 0)];
-    Ok(expect_counts(rt.alloc(), Decoder::Lenient, both)?)
+fn reads_pairs_leniently(rt: HostRuntime) {
+    let decoder = Decoder::Lenient;
+    assert_counts(&rt, rt.alloc(), decoder, Flavor::Cesu8, (18_304, 18_304, 0));
+    assert_counts(&rt, rt.alloc(), decoder, Flavor::Mutf8, (18_305, 18_304, 0));
 }
 
 #[test]
-fn reads_pairs_lossily_and_strictly(rt: HostRuntime) -> Result<(), Fail> {
+fn reads_pairs_lossily_and_strictly(rt: HostRuntime) {
     let both = [(65_536, 18_304, 61_696), (65_536, 18_049, 62_206)];
-    Ok(expect_counts(rt.alloc(), Decoder::LossyStrict, both)?)
+    assert_counts(
+        &rt,
+        rt.alloc(),
+        Decoder::LossyStrict,
+        Flavor::Cesu8,
+        both[0],
+    );
+    assert_counts(
+        &rt,
+        rt.alloc(),
+        Decoder::LossyStrict,
+        Flavor::Mutf8,
+        both[1],
+    );
 }
 
 #[test]
-fn reads_pairs_lossily(rt: HostRuntime) -> Result<(), Fail> {
+fn reads_pairs_lossily(rt: HostRuntime) {
     let both = [(65_536, 18_304, 61_696), (65_536, 18_304, 61_950)];
-    Ok(expect_counts(rt.alloc(), Decoder::LossyLenient, both)?)
+    assert_counts(
+        &rt,
+        rt.alloc(),
+        Decoder::LossyLenient,
+        Flavor::Cesu8,
+        both[0],
+    );
+    assert_counts(
+        &rt,
+        rt.alloc(),
+        Decoder::LossyLenient,
+        Flavor::Mutf8,
+        both[1],
+    );
 }
 
-/// Compares `lossy_len` of each input, and counts the inputs with each length, from 0 to 6.
-fn count_lengths(alloc: Global, flavor: Flavor) -> Result<[u32; 7], Difference> {
+/// Asserts `lossy_len` of each input, and the number of inputs with each length, from 0 to 6.
+fn assert_lengths(rt: &impl Abort, alloc: Global, flavor: Flavor, due: [u32; 7]) {
     let mut counts = [0u32; 7];
-    for pair in 0..=u16::MAX {
-        let bytes = pair.to_be_bytes();
-        let len = read(alloc, flavor, &bytes)?.text.len();
+    for number in 0..0x10000u32 {
+        let [_, _, first, second] = number.to_be_bytes();
+        let bytes = [first, second];
+        let len = read(alloc, flavor, &bytes)
+            .expect(rt, "a reading")
+            .text
+            .len();
         let measured = lossy_len(flavor, &bytes);
-        expect(alloc, flavor, "lossy_len", measured, Some(len))?;
+        assert_of(rt, measured == Some(len), &(flavor, measured, bytes));
         if let Some(count) = counts.get_mut(len) {
             *count = count.wrapping_add(1);
         }
     }
-    Ok(counts)
+    assert_of(rt, counts == due, &(flavor, counts));
 }
 
 #[test]
-fn measures_pairs(rt: HostRuntime) -> Result<(), Fail> {
-    let counts = count_lengths(rt.alloc(), Flavor::Cesu8)?;
-    assert_eq!(rt; counts, [0, 0, 18_304, 0, 32_768, 0, 14_464]);
-    let counts = count_lengths(rt.alloc(), Flavor::Mutf8)?;
-    assert_eq!(rt; counts, [0, 1, 18_049, 0, 32_766, 0, 14_720]);
-    Ok(())
+fn measures_pairs(rt: HostRuntime) {
+    let counts = [0, 0, 18_304, 0, 32_768, 0, 14_464];
+    assert_lengths(&rt, rt.alloc(), Flavor::Cesu8, counts);
+    let counts = [0, 1, 18_049, 0, 32_766, 0, 14_720];
+    assert_lengths(&rt, rt.alloc(), Flavor::Mutf8, counts);
 }

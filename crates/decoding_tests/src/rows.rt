@@ -1,12 +1,12 @@
 //! A table of valid and damaged input, decoded by each call.
 
+use crate::asserts::{assert_of, assert_same};
 use std::alloc::{AllocError, Global};
 use std::process::Abort;
 use std::str;
-use std::test::Fail;
 use test_cases::borders::{BORDERS, Border};
-use test_cases::comparisons::{expect, expect_reading};
-use test_cases::flavors::{FLAVORS, Flavor, decode_strict};
+use test_cases::comparisons::expect_reading;
+use test_cases::flavors::{Flavor, decode_strict};
 use test_cases::plain::Reading;
 
 /// Input with the same reading in both encodings: a number of U+FFFD, a text, and a number of
@@ -69,61 +69,56 @@ fn push_marks(text: &mut String, count: usize) -> Result<(), AllocError> {
     Ok(())
 }
 
-/// The reading of a row's bytes.
-fn reading_of(
+/// A text between two numbers of U+FFFD.
+fn marked(alloc: Global, before: usize, text: &str, after: usize) -> Result<String, AllocError> {
+    let mut marked = String::new(alloc);
+    push_marks(&mut marked, before)?;
+    marked.push_str(text)?;
+    push_marks(&mut marked, after)?;
+    Ok(marked)
+}
+
+/// Asserts that each call returns this reading, in one encoding.
+fn assert_read(rt: &impl Abort, alloc: Global, flavor: Flavor, bytes: &[u8], reading: &Reading) {
+    assert_same(rt, expect_reading(alloc, flavor, bytes, reading), bytes);
+}
+
+/// Asserts that each call returns the reading of a row, in both encodings.
+fn assert_row(
+    rt: &impl Abort,
     alloc: Global,
     bytes: &[u8],
-    before: usize,
-    text: &str,
-    after: usize,
-) -> Result<Reading, AllocError> {
-    let mut read = String::new(alloc);
-    push_marks(&mut read, before)?;
-    read.push_str(text)?;
-    push_marks(&mut read, after)?;
-    Ok(Reading {
-        text: read,
+    (before, text, after): (usize, &str, usize),
+) {
+    let reading = Reading {
+        text: marked(alloc, before, text, after).expect(rt, "the text"),
         damaged: before.wrapping_add(after),
         valid: if before > 0 {
             0
         } else {
             bytes.len().saturating_sub(after)
         },
-    })
-}
-
-/// Asserts that each call returns this reading, in one encoding.
-fn assert_read(rt: &impl Abort, alloc: Global, flavor: Flavor, bytes: &[u8], reading: &Reading) {
-    let compared = expect_reading(alloc, flavor, bytes, reading);
-    assert!(rt; compared.is_ok(), "{compared:?} of {bytes:?}");
-}
-
-/// Asserts that each call returns this reading, in both encodings.
-fn assert_read_alike(rt: &impl Abort, alloc: Global, bytes: &[u8], reading: &Reading) {
-    assert_read(rt, alloc, Flavor::Cesu8, bytes, reading);
-    assert_read(rt, alloc, Flavor::Mutf8, bytes, reading);
+    };
+    assert_read(rt, alloc, Flavor::Cesu8, bytes, &reading);
+    assert_read(rt, alloc, Flavor::Mutf8, bytes, &reading);
 }
 
 #[test]
-fn reads_rows(rt: HostRuntime) -> Result<(), Fail> {
+fn reads_rows(rt: HostRuntime) {
     for (bytes, before, text, after) in &ROWS {
-        let reading = reading_of(rt.alloc(), bytes, *before, text, *after)?;
-        assert_read_alike(&rt, rt.alloc(), bytes, &reading);
+        assert_row(&rt, rt.alloc(), bytes, (*before, text, *after));
     }
-    Ok(())
 }
 
 /// If a surrogate pair is cut in two, each byte of each part is replaced by U+FFFD.
 #[test]
-fn reads_cuts_of_a_pair(rt: HostRuntime) -> Result<(), Fail> {
+fn reads_cuts_of_a_pair(rt: HostRuntime) {
     let pair = b"\xED\xA0\xBD\xED\xB2\x96";
-    for place in 1..6 {
-        for bytes in [&pair[..place], &pair[place..]] {
-            let reading = reading_of(rt.alloc(), bytes, bytes.len(), "", 0)?;
-            assert_read_alike(&rt, rt.alloc(), bytes, &reading);
-        }
+    for place in 1..6usize {
+        let (front, back) = pair.split_at(place);
+        assert_row(&rt, rt.alloc(), front, (front.len(), "", 0));
+        assert_row(&rt, rt.alloc(), back, (back.len(), "", 0));
     }
-    Ok(())
 }
 
 /// Input with a different reading in each encoding, or with damage between characters: its text in
@@ -171,47 +166,55 @@ static APART: [(&[u8], [&str; 2], [usize; 2], [usize; 2]); 9] = [
     ),
 ];
 
-#[test]
-fn reads_each_encoding(rt: HostRuntime) -> Result<(), Fail> {
-    for (bytes, texts, damaged, valid) in &APART {
-        for flavor in FLAVORS {
-            let reading = Reading {
-                text: reading_of(rt.alloc(), bytes, 0, flavor.of(*texts), 0)?.text,
-                damaged: flavor.of(*damaged),
-                valid: flavor.of(*valid),
-            };
-            assert_read(&rt, rt.alloc(), flavor, bytes, &reading);
-        }
-    }
-    Ok(())
-}
-
-/// Asserts that a scalar value is decoded, and that `into_string` returns it.
-fn assert_border(
+/// Asserts that each call returns a row's reading, in one encoding.
+fn assert_apart(
     rt: &impl Abort,
     alloc: Global,
     flavor: Flavor,
-    border: &Border,
-) -> Result<(), Fail> {
-    let bytes = border.encoded(flavor);
-    let reading = reading_of(alloc, bytes, 0, str::from_utf8(border.utf8)?, 0)?;
-    let copy = decode_strict(alloc, flavor, bytes)?.into_string(alloc)?;
-    expect(
-        alloc,
-        flavor,
-        border.name,
-        copy.as_str(),
-        reading.text.as_str(),
-    )?;
+    bytes: &[u8],
+    (text, damaged, valid): (&str, usize, usize),
+) {
+    let reading = Reading {
+        text: marked(alloc, 0, text, 0).expect(rt, "the text"),
+        damaged,
+        valid,
+    };
     assert_read(rt, alloc, flavor, bytes, &reading);
-    Ok(())
 }
 
 #[test]
-fn reads_the_borders(rt: HostRuntime) -> Result<(), Fail> {
-    for row in &BORDERS {
-        assert_border(&rt, rt.alloc(), Flavor::Cesu8, row)?;
-        assert_border(&rt, rt.alloc(), Flavor::Mutf8, row)?;
+fn reads_each_encoding(rt: HostRuntime) {
+    for (bytes, texts, damaged, valid) in &APART {
+        let cesu8 = (texts[0], damaged[0], valid[0]);
+        assert_apart(&rt, rt.alloc(), Flavor::Cesu8, bytes, cesu8);
+        let mutf8 = (texts[1], damaged[1], valid[1]);
+        assert_apart(&rt, rt.alloc(), Flavor::Mutf8, bytes, mutf8);
     }
-    Ok(())
+}
+
+/// Whether `into_string` returns this text for bytes that are decoded.
+fn is_copied(alloc: Global, flavor: Flavor, bytes: &[u8], text: &str) -> bool {
+    let Ok(decoded) = decode_strict(alloc, flavor, bytes) else {
+        return false;
+    };
+    match decoded.into_string(alloc) {
+        Ok(copy) => copy.as_str() == text,
+        Err(_) => false,
+    }
+}
+
+/// Asserts that a scalar value is decoded, and that `into_string` returns it.
+fn assert_border(rt: &impl Abort, alloc: Global, flavor: Flavor, border: &Border) {
+    let bytes = border.encoded(flavor);
+    let text = str::from_utf8(border.utf8).unwrap_or("");
+    assert_apart(rt, alloc, flavor, bytes, (text, 0, bytes.len()));
+    assert_of(rt, is_copied(alloc, flavor, bytes, text), &bytes);
+}
+
+#[test]
+fn reads_the_borders(rt: HostRuntime) {
+    for row in &BORDERS {
+        assert_border(&rt, rt.alloc(), Flavor::Cesu8, row);
+        assert_border(&rt, rt.alloc(), Flavor::Mutf8, row);
+    }
 }

@@ -1,27 +1,25 @@
 //! Decoding to buffers of about the needed length, compared with the plain decoder.
 
-use std::alloc::{AllocError, Global};
+use crate::asserts::{assert_same, inserted};
+use std::alloc::Global;
 use std::ops::Range;
 use std::process::Abort;
-use std::test::Fail;
 use test_cases::borders::BORDERS;
 use test_cases::fills::{FILLS, Input, OTHER_FILLS};
-use test_cases::flavors::FLAVORS;
+use test_cases::flavors::Flavor;
 use test_cases::slices::expect_slices;
 
 /// Asserts that each call that writes to a buffer agrees with the plain decoder for these bytes.
 fn assert_read(rt: &impl Abort, alloc: Global, bytes: &[u8]) {
-    let compared = expect_slices(alloc, bytes);
-    assert!(rt; compared.is_ok(), "{compared:?} of {bytes:?}");
+    assert_same(rt, expect_slices(alloc, bytes), bytes);
 }
 
 #[test]
 fn decodes_the_borders(rt: HostRuntime) {
     for row in &BORDERS {
         assert_read(&rt, rt.alloc(), row.utf8);
-        for flavor in FLAVORS {
-            assert_read(&rt, rt.alloc(), row.encoded(flavor));
-        }
+        assert_read(&rt, rt.alloc(), row.encoded(Flavor::Cesu8));
+        assert_read(&rt, rt.alloc(), row.encoded(Flavor::Mutf8));
     }
 }
 
@@ -37,13 +35,13 @@ fn decodes_few_bytes(rt: HostRuntime) {
     }
 }
 
-/// Asserts that a fill is decoded correctly with another byte at each offset.
+/// Asserts that fills of these lengths are decoded correctly with another byte at each offset.
 fn assert_each_place(
     rt: &impl Abort,
     alloc: Global,
     (fill, lengths): (&[u8], Range<usize>),
     byte: u8,
-) -> Result<(), AllocError> {
+) {
     for len in lengths {
         for place in 0..len {
             let input = Input {
@@ -52,10 +50,10 @@ fn assert_each_place(
                 put: &[byte],
                 place,
             };
-            assert_read(rt, alloc, input.replaced(alloc)?.as_slice());
+            let bytes = input.replaced(alloc).expect(rt, "an input");
+            assert_read(rt, alloc, &bytes);
         }
     }
-    Ok(())
 }
 
 /// Two bytes of ASCII, and bytes that are damage in UTF-8 and in both encodings if they stand
@@ -64,27 +62,24 @@ const BYTES: [u8; 8] = [0x00, 0x7F, 0x80, 0xBF, 0xC3, 0xF0, 0xF7, 0xFF];
 
 /// The fast path for short ASCII must see the other byte at each offset.
 #[test]
-fn decodes_short_ascii(rt: HostRuntime) -> Result<(), Fail> {
+fn decodes_short_ascii(rt: HostRuntime) {
     for byte in BYTES {
-        assert_each_place(&rt, rt.alloc(), (b"a", 1..20), byte)?;
+        assert_each_place(&rt, rt.alloc(), (b"a", 1..20), byte);
     }
-    Ok(())
 }
 
 #[test]
-fn decodes_ascii_of_32_bytes(rt: HostRuntime) -> Result<(), Fail> {
+fn decodes_ascii_of_32_bytes(rt: HostRuntime) {
     for byte in BYTES {
-        assert_each_place(&rt, rt.alloc(), (b"a", 32..34), byte)?;
+        assert_each_place(&rt, rt.alloc(), (b"a", 32..34), byte);
     }
-    Ok(())
 }
 
 #[test]
-fn decodes_ascii_of_64_bytes(rt: HostRuntime) -> Result<(), Fail> {
+fn decodes_ascii_of_64_bytes(rt: HostRuntime) {
     for byte in BYTES {
-        assert_each_place(&rt, rt.alloc(), (b"a", 64..66), byte)?;
+        assert_each_place(&rt, rt.alloc(), (b"a", 64..66), byte);
     }
-    Ok(())
 }
 
 /// The length of the fewest whole fills that have at least `len` bytes.
@@ -94,12 +89,11 @@ fn whole(fill: &[u8], len: usize) -> usize {
 
 /// Text of several blocks in which one byte is damaged.
 #[test]
-fn decodes_a_damaged_byte_at_each_place(rt: HostRuntime) -> Result<(), Fail> {
+fn decodes_a_damaged_byte_at_each_place(rt: HostRuntime) {
     for fill in FILLS {
         let len = whole(fill, 160);
-        assert_each_place(&rt, rt.alloc(), (fill, len..len.saturating_add(1)), 0xFF)?;
+        assert_each_place(&rt, rt.alloc(), (fill, len..len.saturating_add(1)), 0xFF);
     }
-    Ok(())
 }
 
 /// Asserts that whole fills of about `len` bytes are decoded correctly with the bytes `put`
@@ -109,15 +103,14 @@ fn assert_put(
     alloc: Global,
     (fill, len): (&[u8], usize),
     (put, place): (&[u8], usize),
-) -> Result<(), AllocError> {
+) {
     let input = Input {
         fill,
         len: whole(fill, len),
         put,
         place: whole(fill, place),
     };
-    assert_read(rt, alloc, input.inserted(alloc)?.as_slice());
-    Ok(())
+    assert_read(rt, alloc, &inserted(rt, alloc, input));
 }
 
 /// The bytes that are inserted between fills.
@@ -129,79 +122,70 @@ const PUT: [&[u8]; 5] = [
     b"\xFF",
 ];
 
-/// Asserts that fills of these lengths are decoded correctly with bytes inserted before, between
-/// and after them.
-fn assert_among(
-    rt: &impl Abort,
-    alloc: Global,
-    fills: &[&[u8]],
-    lengths: &[usize],
-) -> Result<(), AllocError> {
+/// Asserts that fills of about `len` bytes are decoded correctly with bytes inserted before,
+/// between and after them.
+fn assert_among(rt: &impl Abort, alloc: Global, fills: &[&[u8]], len: usize) {
     for fill in fills {
-        for len in lengths {
-            for put in PUT {
-                for place in [0, len / 2, *len] {
-                    assert_put(rt, alloc, (fill, *len), (put, place))?;
-                }
-            }
+        for put in PUT {
+            assert_put(rt, alloc, (fill, len), (put, 0));
+            assert_put(rt, alloc, (fill, len), (put, len / 2));
+            assert_put(rt, alloc, (fill, len), (put, len));
         }
     }
-    Ok(())
 }
 
 /// Lengths of a few bytes, and lengths near the borders of blocks.
 #[test]
-fn decodes_blocks(rt: HostRuntime) -> Result<(), Fail> {
-    for fills in [FILLS.as_slice(), OTHER_FILLS.as_slice()] {
-        assert_among(&rt, rt.alloc(), fills, &[1, 4, 31, 33, 64, 97, 200])?;
+fn decodes_blocks(rt: HostRuntime) {
+    for len in [1, 4, 31, 33, 64, 97, 200] {
+        assert_among(&rt, rt.alloc(), &FILLS, len);
+        assert_among(&rt, rt.alloc(), &OTHER_FILLS, len);
     }
-    Ok(())
 }
 
 /// Lengths near the borders of windows.
 #[test]
-fn decodes_short_windows(rt: HostRuntime) -> Result<(), Fail> {
-    assert_among(&rt, rt.alloc(), &FILLS, &[256, 257, 1024])?;
-    assert_among(&rt, rt.alloc(), &OTHER_FILLS, &[256, 257])?;
-    Ok(())
+fn decodes_short_windows(rt: HostRuntime) {
+    assert_among(&rt, rt.alloc(), &FILLS, 256);
+    assert_among(&rt, rt.alloc(), &FILLS, 257);
+    assert_among(&rt, rt.alloc(), &FILLS, 1024);
+    assert_among(&rt, rt.alloc(), &OTHER_FILLS, 256);
+    assert_among(&rt, rt.alloc(), &OTHER_FILLS, 257);
 }
 
 #[test]
-fn decodes_a_window_and_a_byte(rt: HostRuntime) -> Result<(), Fail> {
-    assert_among(&rt, rt.alloc(), &FILLS, &[1025])?;
-    Ok(())
+fn decodes_a_window_and_a_byte(rt: HostRuntime) {
+    assert_among(&rt, rt.alloc(), &FILLS, 1025);
 }
 
 #[test]
-fn decodes_windows_of_text(rt: HostRuntime) -> Result<(), Fail> {
-    assert_among(&rt, rt.alloc(), &FILLS, &[2050])?;
-    Ok(())
+fn decodes_windows_of_text(rt: HostRuntime) {
+    assert_among(&rt, rt.alloc(), &FILLS, 2050);
 }
 
 #[test]
-fn decodes_windows_of_other_bytes(rt: HostRuntime) -> Result<(), Fail> {
-    assert_among(&rt, rt.alloc(), &OTHER_FILLS, &[1024, 1025, 2050])?;
-    Ok(())
+fn decodes_windows_of_other_bytes(rt: HostRuntime) {
+    assert_among(&rt, rt.alloc(), &OTHER_FILLS, 1024);
+    assert_among(&rt, rt.alloc(), &OTHER_FILLS, 1025);
+    assert_among(&rt, rt.alloc(), &OTHER_FILLS, 2050);
 }
 
 /// Each number of bytes after the last block.
 #[test]
-fn decodes_text_of_each_length(rt: HostRuntime) -> Result<(), Fail> {
+fn decodes_text_of_each_length(rt: HostRuntime) {
     for fill in &FILLS[2..] {
         for len in 257..401 {
-            assert_put(&rt, rt.alloc(), (fill, len), (b"", 0))?;
+            assert_put(&rt, rt.alloc(), (fill, len), (b"", 0));
         }
     }
-    Ok(())
 }
 
 /// Characters across each border of the groups of blocks whose counts are added up at once.
 #[test]
-fn decodes_text_across_borders(rt: HostRuntime) -> Result<(), Fail> {
+fn decodes_text_across_borders(rt: HostRuntime) {
     for fill in &FILLS[2..] {
         for len in 1700..1732usize {
-            assert_put(&rt, rt.alloc(), (fill, len), (&b"aaaaaa"[..len % 6], 0))?;
+            assert_put(&rt, rt.alloc(), (fill, len), (&b"aaaaaa"[..len % 6], 0));
         }
     }
-    Ok(())
 }

@@ -1,31 +1,29 @@
 //! The longest valid prefix, near the borders of blocks, compared with the plain decoder.
 
+use crate::asserts::{assert_of, inserted};
 use std::alloc::Global;
 use std::ops::Range;
-use std::test::Fail;
-use test_cases::comparisons::{Difference, expect};
+use std::process::Abort;
 use test_cases::fills::{FILLS, Input};
-use test_cases::flavors::{FLAVORS, valid_up_to};
+use test_cases::flavors::{Flavor, valid_up_to};
 use test_cases::plain::read;
 
-/// Compares the length of the longest valid prefix, in each encoding.
-fn expect_front(alloc: Global, bytes: &[u8]) -> Result<(), Difference> {
-    for flavor in FLAVORS {
-        let valid = valid_up_to(flavor, bytes);
-        let expected = read(alloc, flavor, bytes)?.valid;
-        expect(alloc, flavor, "valid_up_to", valid, expected)?;
-    }
-    Ok(())
+/// Asserts the length of the longest valid prefix, in one encoding.
+fn assert_front(rt: &impl Abort, alloc: Global, flavor: Flavor, bytes: &[u8]) {
+    let valid = valid_up_to(flavor, bytes);
+    let expected = read(alloc, flavor, bytes).expect(rt, "a reading").valid;
+    assert_of(rt, valid == expected, &(flavor, valid, expected, bytes));
 }
 
-/// Compares the valid prefix if `put` is inserted at each of some offsets of a fill.
-fn expect_at(
+/// Asserts the valid prefix, in each encoding, if `put` is inserted at each of some offsets of a
+/// fill.
+fn assert_at(
+    rt: &impl Abort,
     alloc: Global,
-    fill: &[u8],
-    len: usize,
+    (fill, len): (&[u8], usize),
     places: Range<usize>,
     put: &[u8],
-) -> Result<(), Difference> {
+) {
     for place in places {
         let input = Input {
             fill,
@@ -33,9 +31,10 @@ fn expect_at(
             put,
             place,
         };
-        expect_front(alloc, input.inserted(alloc)?.as_slice())?;
+        let bytes = inserted(rt, alloc, input);
+        assert_front(rt, alloc, Flavor::Cesu8, &bytes);
+        assert_front(rt, alloc, Flavor::Mutf8, &bytes);
     }
-    Ok(())
 }
 
 /// One damaged byte, four of them, half of a surrogate pair, and a pair whose last byte is missing.
@@ -46,28 +45,35 @@ static DAMAGE: [&[u8]; 4] = [
     b"\xED\xA0\xBD\xED\xB2",
 ];
 
-/// The first block has 32 bytes, and each step after it 64.
-#[test]
-fn finds_damage_about_the_ends_of_blocks(rt: HostRuntime) -> Result<(), Fail> {
-    for put in &DAMAGE {
-        for fill in &FILLS {
-            for end in [32, 64, 96, 160, 224] {
-                expect_at(rt.alloc(), fill, 300, end - 12..end + 12, put)?;
-            }
-        }
+/// Damage near the ends of blocks. The first block has 32 bytes, and each step after it 64.
+fn assert_about_blocks(rt: &impl Abort, alloc: Global, fill: &[u8], put: &[u8]) {
+    for end in [32usize, 64, 96, 160, 224] {
+        let places = end.saturating_sub(12)..end.saturating_add(12);
+        assert_at(rt, alloc, (fill, 300), places, put);
     }
-    Ok(())
 }
 
-/// Lengths for which the last block overlaps the one before it.
 #[test]
-fn finds_damage_about_the_end(rt: HostRuntime) -> Result<(), Fail> {
+fn finds_damage_about_the_ends_of_blocks(rt: HostRuntime) {
     for put in &DAMAGE {
         for fill in &FILLS {
-            for len in 28..132 {
-                expect_at(rt.alloc(), fill, len, len - 7..len, put)?;
-            }
+            assert_about_blocks(&rt, rt.alloc(), fill, put);
         }
     }
-    Ok(())
+}
+
+/// Damage near the end, at lengths for which the last block overlaps the one before it.
+fn assert_about_the_end(rt: &impl Abort, alloc: Global, fill: &[u8], put: &[u8]) {
+    for len in 28..132usize {
+        assert_at(rt, alloc, (fill, len), len.saturating_sub(7)..len, put);
+    }
+}
+
+#[test]
+fn finds_damage_about_the_end(rt: HostRuntime) {
+    for put in &DAMAGE {
+        for fill in &FILLS {
+            assert_about_the_end(&rt, rt.alloc(), fill, put);
+        }
+    }
 }
