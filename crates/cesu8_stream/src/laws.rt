@@ -11,5 +11,6 @@ pub fn in_pieces()
     ensures encoded { EncodedInPieces }
     ensures lossy { LossyInPieces }
 {
+    // A law does nothing at run time: the proof uses its contract.
     simd_cesu8::laws::concat();
 }

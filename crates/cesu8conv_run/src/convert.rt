@@ -41,6 +41,7 @@ pub fn convert<R: Read, W: Write, V: Watch>(
     ensures err { IfErr result (λ fault. StopsBy conversion fault (R.remaining input.old)
         (W.contents output.old) (W.contents output.new)) }
 {
+    // A law does nothing at run time: the proof uses its contract.
     laws::concat();
     if window.len() < LEAST || room.len() < LEAST {
         return Err(Fault::Size);

@@ -78,6 +78,7 @@ fn decode_step(flavor: FlavorWord, bytes: &[u8], is_last: bool, room: &mut [u8])
 fn lossy_step(flavor: FlavorWord, bytes: &[u8], is_last: bool, room: &mut [u8]) -> Step
     ensures { IsStep (Conversion.Lossy flavor) bytes.now is_last room.new result }
 {
+    // Laws do nothing at run time: the proof uses their contracts.
     laws::around();
     laws::places();
     replace(decode_step(flavor, bytes, is_last, room), room)
