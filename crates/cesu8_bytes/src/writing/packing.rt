@@ -13,7 +13,6 @@ use std::simd::prelude::*;
 
 /// The bytes that a packed row stores. The last of them may be garbage: buffers have room for them.
 pub const STORED: usize = 16;
-
 /// Half a block: the 16 lanes that `swizzle_dyn_within` selects from. The tables have this size.
 pub const HALF: usize = BLOCK / 2;
 
