@@ -1,4 +1,4 @@
-//! The law of calls in a row, in both encodings. The function does nothing: its contract is the
+//! The law of consecutive calls, in both encodings. The function does nothing: its contract is the
 //! law, for every list of calls.
 
 ghost use Rattle.cesu8_stream.specs.Laws.{StrictInPieces, EncodedInPieces, LossyInPieces};

@@ -49,7 +49,7 @@ pub fn convert<R: Read, W: Write, V: Watch>(
     let mut offset = 0u64;
     let mut unread = 0;
     for _ in 0..u64::MAX {
-        // Neither comes to pass: less than a character is unread, and no input is so long.
+        // Neither can happen: less than a character is unread, and no input has that many bytes.
         if unread >= window.len() || offset > u64::MAX - window.len() as u64 {
             return Err(Fault::Size);
         }
