@@ -1,11 +1,11 @@
-# What the gate says of its own time. .ci/run sources this file, and sets `scratch` before, a folder
-# for what it notes.
+# How the gate measures its own time. .ci/run sources this file, and first sets `scratch`, the folder in
+# which the times are stored.
 # shellcheck shell=bash disable=SC2154
 
-# Notes every five seconds how much of the processors' time each check of `rt ci` has taken, until it is
-# ended: PROCESS TICKS PART. What a check takes after the last look at it is missed, and so is a process
-# that takes less than half a second: `note_checks TREE ROOM`, the folder where `rt ci` runs, and the one
-# where it makes a copy for some crates.
+# Stores every five seconds how much processor time each check of `rt ci` has taken, until it is ended, in
+# lines PROCESS TICKS PART: `note_checks TREE ROOM`, the folder in which `rt ci` runs, and the one in which it
+# makes copies of some crates. The time of a check after the last such line is not counted, nor a process
+# that takes less than half a second.
 note_checks() {
     local process ticks hertz
     local -A part=()

@@ -1,13 +1,13 @@
-# How the gate tries the edits of must-fail. .ci/run sources this file, and sets `scratch` before. There the
-# copy `scripts` of the tree has the libraries, and the folder `proved` a file for each that is proved.
+# How the gate tries the edits of must-fail. .ci/run sources this file, and first sets `scratch`, a folder in
+# which the copy `scripts` of the tree has the libraries, and `proved` a file for each that is proved.
 # shellcheck shell=bash disable=SC2154
 #
-# Most of a check is loading, so one check tries several edits, which change a function of their own each:
-# a round, as rounds.awk lays them. An edit counts as refused only if a goal of its own function is false,
-# which told.awk finds in what the check says. A round is first checked as far as its functions need, if it
-# changes nothing else. What it doesn't refuse is tried again by a check of the whole crate, as a round of
-# its own, and at last each edit alone: the kit leaves goals of a function untried if one that it calls is
-# not proved, and an edit that can't be read spoils its round.
+# Most of a check is loading, so one check tries several edits at once, a round. rounds.awk makes the rounds,
+# so that each edit of one changes another function. An edit counts as rejected only if a goal of the
+# function that it changes is false: told.awk finds that in the output of the check. A round that changes only
+# functions is first tried by a check of these alone. The edits that this does not reject are tried again by
+# a check of the whole crate, first together and at last one by one: `rt` does not try the goals of a function
+# that calls an unproved one, and an edit that cannot be read breaks its round.
 
 # The crates, each after those that it uses.
 listed_crates() {

@@ -1,37 +1,38 @@
-# The look before a push, `.ci/run --quick`. .ci/run sources this file, and sets `scratch` before.
+# The check before a push, `.ci/run --quick`. .ci/run sources this file, and first sets `scratch`, a folder
+# for temporary files.
 #
-# It is no verdict: the gate is. It begins with copies of what `rt` keeps in the `out` folders of this clone.
-# Over these
-# - it proves the crates that differ, and those above them that have `specs`, which promise something, with the
-#   program over one of these. What is below is proved only where this clone has no proof of it as it stands;
-# - the tests of all crates that differ or stand above run, without proof;
-# - the edits of files that differ are tried, but .ci/shows.sh is left to the gate. All of these crates can
-#   be applied;
-# - a program that is among what is proved is linked, and its scripts run: cli.sh and requests.sh, or
-#   cesu8conv.sh.
+# It compares this tree with a commit, and tests less than the gate, so only the gate decides. It starts from
+# what `rt` has kept in the `out` folders of this clone. Then it
+# - proves the crates that differ, and the crates that use them if these have `specs` or are programs. Of
+#   what these use, it proves only what this clone has no proof of in its present form;
+# - runs, without proof, the tests of the crates that differ and of all crates that use them;
+# - tries the edits that differ and those of files that differ, but leaves .ci/shows.sh to the gate. It also
+#   tests that all edits of the crates that differ can be applied;
+# - links each program that was proved, and runs its scripts: cli.sh and requests.sh, or cesu8conv.sh.
 #
-# What it has proved of crates of which this clone had nothing, as `uses` or tests, it leaves in their `out`
-# folders, for the next look.
+# If a crate had nothing in its `out` folder, as often `uses` and the tests, its proof is kept there for the
+# next run.
 #
-# It works in two copies of the tree: `tests` has all but the proofs, and `scripts`, which the edits begin
-# with, has the crates that are proved and what was kept of them. The first crate that has not its form, or
-# is not proved, ends it.
+# It works in two copies of the tree. `tests` has no proofs that were kept. `scripts`, the name that edits.sh
+# expects, has the crates that are proved and what was kept of them. The first crate that is not formatted
+# or not proved ends the run.
 # shellcheck shell=bash disable=SC2034,SC2154
 
-# Crates of this tree: those that differ, those above them that promise something, those of both kinds and
-# the others above that have tests, and those that have neither; and what is proved, each after what it uses.
+# A crate is above those that it uses, directly or through others. The crates that differ; those above them
+# that have contracts for users; those that have tests; those above that have neither; and what is proved,
+# each after what it uses.
 differing=()
 above=()
 tested=()
 left=()
 needed=()
 
-# Whether a file of a crate differs, or one that all crates are read with.
+# Whether a file of a crate differs, or a file that every crate is read with.
 differs() {
     grep -qE "^(crates/$1/|crates\.txt$|HANDLES$)" "$scratch/paths"
 }
 
-# Whether a crate uses one that differs, itself or by others.
+# Whether a crate uses one that differs, directly or through others.
 is_above() {
     local used
     for used in $(used_by "$1"); do
@@ -52,12 +53,12 @@ is_needed() {
     [[ " ${needed[*]} " == *" $1 "* ]]
 }
 
-# Whether a crate differs, or promises something above one that does.
+# Whether a crate is in `differing` or in `above`.
 is_changed() {
     [[ " ${differing[*]} ${above[*]} " == *" $1 "* ]]
 }
 
-# Sorts the crates, as they differ from a commit: `choose_crates REV`.
+# Sorts the crates into these lists, by how the tree differs from a commit: `choose_crates REV`.
 choose_crates() {
     local crate
     if ! git diff --name-only --no-renames "$1" -- >"$scratch/paths"; then
@@ -82,7 +83,7 @@ choose_crates() {
     for crate in "${differing[@]}" "${above[@]}"; do need "$crate"; done
 }
 
-# The edits of files that differ, and those that differ themselves.
+# Prints the edits of files that differ, and those that differ themselves.
 edits_to_try() {
     local edit file
     for edit in crates/*/must-fail/*.edit; do
@@ -95,15 +96,16 @@ edits_to_try() {
     done
 }
 
-# Whether this clone has a proof of a crate as it stands. `rt` knows that by the texts; this goes by times.
+# Whether this clone has a proof of a crate in its present form. `rt` compares what the files contain. This
+# compares only their times, which is enough here: nothing is taken as proved because of it.
 is_kept() {
     local at=crates/$1
     ! is_changed "$1" && [[ -e $at/out/rlib/stamp &&
         -z $(find "$at"/{src,specs,proofs} -newer "$at/out/rlib/stamp") ]]
 }
 
-# Says what there is to do, for how long, and what is left: `announce REV`. The times are of a processor at
-# 2.5 GHz.
+# Prints what will be done, about how long that takes, and what is left to the gate: `announce REV`. The
+# times were measured on a processor at 2.5 GHz.
 announce() {
     local seconds=0 again=() new=() crate lines tests lanes=$((processors < 3 ? processors : 3))
     for crate in "${needed[@]}"; do
@@ -130,7 +132,7 @@ announce() {
     echo "to test, without proof: ${tested[*]:-nothing}"
     echo "left to the gate: the proofs of tests, other edits and scripts, ${left[*]:-no crate}"
     echo "that takes about $((seconds / 60 + 1)) minutes of a processor, $((seconds / 60 / lanes + 1)) by the clock"
-    [[ " ${new[*]} " != *' simd_cesu8 '* ]] || echo 'where rt run was done once in crates/cesu8_cli it takes less'
+    [[ " ${new[*]} " != *' simd_cesu8 '* ]] || echo 'after rt run in crates/cesu8_cli it takes less'
 }
 
 # Makes the copy in which the tests run.
@@ -139,7 +141,7 @@ copy_for_tests() {
     tar -c --exclude=.git --exclude=out . | tar -x -C "$scratch/tests"
 }
 
-# Makes the copy in which crates are proved, from that one, with what this clone has of their proofs.
+# Makes the copy in which crates are proved: from the copy for tests, with what this clone has kept.
 copy_for_proofs() {
     local crate
     cp -r "$scratch/tests" "$scratch/scripts"
@@ -155,8 +157,9 @@ copy_for_proofs() {
     done
 }
 
-# Copies what this clone has of a crate's proof: the library, whose files get a second name where they can,
-# since `rt` replaces them and changes none, and where there is something to prove what that begins with.
+# Copies what this clone has kept of a crate's proof: the library, and if the crate has to be proved, what
+# `rt` begins with. The library's files are hard links if possible, since `rt` replaces such a file and never
+# writes into it.
 copy_proof() {
     local out=crates/$1/out
     if [[ -d $out/rlib ]]; then
@@ -167,8 +170,8 @@ copy_proof() {
     fi
 }
 
-# Runs a command in a folder below `scratch`, and prints what it said where it fails, but for what is well:
-# `run_in FOLDER COMMAND WORD..`.
+# Runs a command in a folder below `scratch`. If it fails, prints its output without the lines that report
+# success: `run_in FOLDER COMMAND WORD..`.
 run_in() {
     local at=$scratch/$1 said
     shift
@@ -178,11 +181,11 @@ run_in() {
     return 1
 }
 
-# Whether a crate has the form that `rt fmt` gives it, and all of its edits can be applied. `rt` says what is
-# wrong.
+# Tests that a crate is formatted as `rt fmt` would, and that all of its edits can be applied. It prints what
+# `rt` reports.
 look_at_form() {
     local said
-    # It reads no line `shows:` of an edit, which is for .ci/shows.sh.
+    # `rt` does not read the lines `shows:` of edits, which are for .ci/shows.sh, and notes each.
     said=$(
         cd "$scratch/tests/crates/$1" && rt fmt 2>&1 |
             sed '/^rt: note: must-fail\/.* has a line that is not read, .*: shows: /d'
@@ -192,8 +195,8 @@ look_at_form() {
     return 1
 }
 
-# Proves a crate that differs, for what stands above it and for its edits. What comes before it in `needed`
-# is proved then too.
+# Proves a crate that differs. The crates above it and its edits need that proof. `rt` also proves what it
+# uses, so all crates up to it in `needed` are then marked as proved.
 prove_crate() {
     local verb=lib name
     [[ ! -e crates/$1/src/main.rt ]] || verb=check
@@ -204,8 +207,8 @@ prove_crate() {
     done
 }
 
-# Keeps in this clone what was proved of crates of which it had nothing. The folder appears at once, since
-# `rt` may look there.
+# Keeps in this clone the proofs of crates of which it had none. The folder is copied first and then renamed,
+# so that an `rt` that runs at the same time never finds half of it.
 keep_proofs() {
     local crate out
     for crate in "${needed[@]}"; do
@@ -216,20 +219,21 @@ keep_proofs() {
     done
 }
 
-# Links the program, and compares what it writes with the file beside its sources.
+# Links the program, and compares its output with the file `stdout` of its crate.
 link_program() {
     local -a words
     mapfile -t words <args
     rt run -- "${words[@]}" <stdin | cmp - stdout
 }
 
-# Runs the tests of a crate without proof. With its checks, one takes up to a minute of a processor.
+# Runs the tests of a crate without proof. With the checks of `rt try`, one test takes up to a minute of a
+# processor.
 try_tests() {
     if run_in "tests/crates/$1" rt try --test --seconds 1800; then echo "tests of $1: passed"; fi
     note_seconds "tests of $1"
 }
 
-# Tries the edits, and beside them the tests of two crates at once.
+# Tries the edits, and at the same time runs the tests of two crates at once.
 try_edits_and_tests() {
     local crate
     try_edits 1 "${differing[@]}" &
@@ -240,7 +244,7 @@ try_edits_and_tests() {
     wait
 }
 
-# Counts the tests of which it was said that they passed. All others are wrong.
+# Counts the crates whose tests passed, by the lines that `try_tests` printed. All others are wrong.
 count_tests() {
     local crate
     for crate in "${tested[@]}"; do
@@ -252,14 +256,14 @@ count_tests() {
     done
 }
 
-# Runs a part, and ends where that fails: `run_or_end NAME COMMAND WORD..`.
+# Runs a part, and ends the whole run if it fails: `run_or_end NAME COMMAND WORD..`.
 run_or_end() {
     run_part "$@"
     ((failed == 0)) || end
 }
 
-# Links a program if it was proved, and runs its scripts, which find it by a variable: `run_with CRATE
-# VARIABLE SCRIPT..`.
+# Links a program if it was proved, and runs its scripts, which read its path from a variable: `run_with
+# CRATE VARIABLE SCRIPT..`.
 run_with() {
     local crate=$1 variable=$2
     shift 2
@@ -269,7 +273,7 @@ run_with() {
     run_scripts "$@"
 }
 
-# What a push wants before the gate: `run_quick REV`.
+# The whole check before a push: `run_quick REV`.
 run_quick() {
     local crate
     choose_crates "$1"
@@ -289,6 +293,6 @@ run_quick() {
     run_with cesu8conv PROVED_CESU8CONV cesu8conv
     count_edits "${differing[@]}"
     count_tests
-    echo 'this is no verdict: .ci/run is'
+    echo 'only the whole gate decides: .ci/run'
     end
 }

@@ -1,21 +1,21 @@
-# Lays the edits of a crate into rounds: awk -v to=FOLDER -f rounds.awk EDIT.., in the crate's folder.
+# Divides the edits of a crate into rounds: awk -v to=FOLDER -f rounds.awk EDIT.., in the crate's folder.
 #
 # It writes to FOLDER, with tabs between:
 #   NAME.lines   each line that an edit changes: FILE LINE TEXT
 #   NAME.owners  each function that it changes: NAME FILE FIRST LAST FOLDER, its lines and the folder of its
-#                proof, or NAME FILE 0 0 any where it changes something else; and SHOWN, `shown` where the
-#                edit has a line `shows:`
+#                proof, or NAME FILE 0 0 any if it changes something else; and SHOWN, `shown` if the edit has
+#                a line `shows:`
 #   rounds       the names of each round
 #   bad          each edit that can't be applied: NAME WHY
 #
-# The edits of a round change the body of a function of their own each. Another function's proof cites the
-# function's contract and can't open its body, so none of them makes a goal of another function false. Where
-# that isn't so, an edit has a round of its own: of a table, a contract, a spec, a proof, a `const fn`, or a
-# function under `#[cycle(..)]`, whose proof opens the others of the cycle.
+# Each edit of a round changes the body of another function. Another function's proof cites the contract of
+# that function and does not see its body, so no edit makes a goal of another function false. An edit for
+# which that is not true has its own round: one of a table, a contract, a spec, a proof, a `const fn`, or a
+# function under `#[cycle(..)]`, whose proof sees the bodies of the others of the cycle.
 #
-# While a function is not proved, the kit leaves goals of its callers untried. So an edit goes where no
-# function of the round calls another one, if there is such a round. By names alone that can't be told for
-# sure, so it opens no round for this.
+# While a function is not proved, `rt` does not try the goals of its callers. So an edit is put in a round in
+# which no function calls another one, if there is such a round. The names alone do not show that for sure, so
+# no new round is made for it.
 #
 # An edit is applied as `rt must-fail` does: each old text is in its file exactly once, after the pairs
 # before. It changes lines in place, and adds none.

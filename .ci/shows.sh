@@ -1,15 +1,15 @@
 #!/usr/bin/env bash
 # Shows by a run that edits are mistakes: `.ci/shows.sh [EDIT..]`, all if none is named.
 #
-# That a check refuses an edit does not always tell that a goal is false: told.awk says when. Such an edit
-# has a line `shows: TEST`, an expression of the language: a call with its input, compared with the wrong
-# answer. TEST has to hold for the changed code, and not for the code as it is. It may name what any crate
-# makes public, `alloc`, and the reader and the writer of cli_tests, as `devices`.
+# A check that rejects an edit does not always show that a goal is false: told.awk says when it does. An edit
+# for which it does not has a line `shows: TEST`, an expression of the language: a call with its input, compared
+# with the wrong result. TEST has to be true for the changed code, and false for the unchanged code. It may use
+# what any crate makes public, `alloc`, and the reader and the writer of cli_tests, as `devices`.
 #
-# Each edit changes a copy of its crate, which has a name of its own and stands beside the unchanged one, as
-# copies of the crates do through which TEST reaches it. So no edit has a part in what another one shows,
-# and one `rt try` compiles all and runs the tests, without proof. A test fails with "with the change" where
-# the edit shows nothing. The copy of a program is a library.
+# Each edit changes a copy of its crate, under another name. The crates through which TEST calls it are copied
+# too, and the unchanged ones are there as well. So the edits do not affect each other, and one `rt try`
+# compiles all of them and runs the tests, without proof. A test fails with the words "with the change" if the
+# edit shows nothing. The copy of a program is a library.
 set -euo pipefail
 unset CDPATH
 export LC_ALL=C
@@ -24,7 +24,7 @@ trap 'rm -rf "$tree"' EXIT
 shown=$tree/crates/shown
 mapfile -t crates < <(listed_crates | grep .)
 
-# What a crate uses of this repository, itself or by others, between spaces.
+# The crates of this repository that a crate uses, directly or through others, between spaces.
 declare -A below
 for crate in "${crates[@]}"; do
     below[$crate]=' '

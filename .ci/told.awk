@@ -1,11 +1,11 @@
-# Says which edits of a round a check has refused:
+# Says which edits of a round a check has rejected:
 #   awk -v status=STATUS -f told.awk NAME.owners.. OUTPUT
 # with the owners that rounds.awk has written, and what `rt check` has printed. For each edit it prints
 # NAME, `refused` or `not`, and WHY, with tabs between.
 #
-# An edit is refused if a goal of a function that it changes is false. The kit tells of a goal at a line
-# of the function's code, or in its file of answers or invariants. Any goal counts for an edit of what is
-# no function's body, since nothing else is changed in its round.
+# An edit is rejected if a goal of a function that it changes is false. The check reports a goal at a line of
+# the function, or in its file of answers or invariants. For an edit that changes something else than the body
+# of a function any goal counts, since its round changes nothing else.
 #
 # A goal counts if the check shows values that break it, or says that it is not proved and names no limit
 # of its search. One at which a search met a limit may be true, and so may one that a proof by hand does not
@@ -65,7 +65,7 @@ END {
     }
 }
 
-# Notes whose goal a message tells of, or that it tells of a text that can't be read.
+# Stores for which edit's function a message reports a goal, or that it reports code that cannot be read.
 function judge(    path, line, rest, i) {
     path = begin
     begin = ""
@@ -93,19 +93,19 @@ function is_of(i, path, line) {
     return path == folder[i] "/Answers.antt" || path == folder[i] "/Invariants.antt"
 }
 
-# The beginning of a message: what stands before it, which may have a name of any length, and a little more.
+# The beginning of a message: its place and the name of its goal, which can be long, and 60 bytes more.
 function beginning(text) {
     match(text, /^(note: )?[^ ]+ (error: `[^`]*`: )?/)
     return substr(text, 1, RLENGTH + 60)
 }
 
-# Whether a message begins as the kit tells of a goal that is not proved.
+# Whether a message begins as those that report a goal that is not proved.
 function tells_goal(text) {
     return beginning(text) ~ /it is not proved that|`[a-z]+`:? (the goal|(found )?no proof|stopped)/ || tells_types(text)
 }
 
-# Whether a message tells that the search for a proof met a limit, and has no values that break the goal.
-# `omega` and `grind` have such values where they say that it does not follow.
+# Whether a message says that the search for a proof met a limit, and has no values that break the goal.
+# `omega` and `grind` have such values if they say that it does not follow.
 function tells_limit(text) {
     if (text ~ /at which this goal is false|`(omega|grind)`: .*does not follow|Every way was tried/) return 0
     return text ~ /at one of its limits|Not every way was tried|was found\. It stopped|may (hold|not break the goal)/
@@ -117,8 +117,8 @@ function tells_types(text) {
     return beginning(text) ~ /the two (types|sides)|: expected type|`rw`: no occurrence/
 }
 
-# Whether a message tells that code, a spec or an edited file can't be read. One of a goal begins with the
-# name of it.
+# Whether a message says that code, a spec or an edited file cannot be read. A message on a goal begins with
+# the name of the goal.
 function is_unread(path, text) {
     if (text !~ /^[^ ]+ error: / || !(path in is_changed) && path !~ /^(src|specs)\//) return 0
     sub(/^[^ ]+ error: /, "", text)

@@ -40,7 +40,8 @@ write_text() {
     printf "$escapes" >"$scratch/texts/$1"
 }
 
-# Writes all scalar values in turn, in texts whose MUTF-8 is short enough for writeUTF.
+# Writes all scalar values in turn, 8,192 in each text. Its MUTF-8 has at most six bytes for each, and
+# writeUTF takes up to 65,535. Surrogates are no scalar values.
 write_blocks() {
     local first last
     for ((first = 0; first < 0x110000; first += 0x2000)); do

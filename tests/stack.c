@@ -1,7 +1,10 @@
 // Prints how many bytes of stack each call of the library for C uses at most, including its return
-// address: a line for each call. A call runs on a stack of its own, which is filled with a pattern
-// before. The lowest word that has changed shows how deep the call went. Memory below it that a
-// function reserves and never writes is not seen.
+// address: a line for each call. tests/sizes.sh runs it, and compares the lines with
+// release/sizes.txt.
+//
+// A call runs on a stack of its own, which is filled with a pattern before. The lowest word that
+// has changed shows how deep the call went. Memory below it that a function reserves and never
+// writes is not seen.
 //
 // The inputs are the texts below, repeated up to several lengths, each without a fault and with each
 // fault at the start, in the middle and at the end. The lengths are those from which the library
@@ -18,6 +21,9 @@
 #include <sys/mman.h>
 #include <ucontext.h>
 
+// WORDS is the size of that stack, and PAGE that of the memory below it, which cannot be written: a
+// multiple of every page size. ROOM is enough for each result: lossy decoding writes at most three
+// bytes for one, and a Java string has at most 65,535 bytes.
 enum { WORDS = 4096, PAGE = 65536, LONGEST = 5000, ROOM = 3 * 65535 };
 
 static const uint64_t PATTERN = 0xA5C3965A3C69F00F;
@@ -60,6 +66,8 @@ static ucontext_t here, there;
 // The result is stored, so that the call is made.
 static volatile enum cesu8_status status;
 
+// Each macro defines a function that makes the call NAME with one kind of arguments: an input, two
+// inputs, an input and a buffer, and these with whether the input is the last piece.
 #define TELLS(name)                                                                                \
     static void name(void) { status = cesu8_##name(input, input_length).status; }
 #define COMPARES(name)                                                                             \
@@ -78,6 +86,8 @@ static volatile enum cesu8_status status;
         status = cesu8_##name(input, input_length, buffer, buffer_length, true).status;            \
     }
 
+// All calls of the header, each in the macro for its arguments. With ROW in place of these macros,
+// the list becomes the table of the calls.
 #define CALLS(TELLS, COMPARES, PLACES, PLACES_LAST)                                                \
     TELLS(needs_encoded)                                                                           \
     TELLS(mutf8_needs_encoded)                                                                     \
@@ -127,6 +137,7 @@ static const struct {
 // How many bytes of the stack a function used, including those of the switch to it.
 static size_t depth_of(call *function)
 {
+    // Below the lowest word that the call before changed, the pattern is still there.
     static size_t lowest = 0;
     for (size_t i = lowest; i < WORDS; i++)
         stack[i] = PATTERN;
@@ -158,6 +169,8 @@ static void fill(const struct piece *text, size_t length, const struct piece *fa
     input_length = (size_t)(bytes - input) + length;
 }
 
+// Makes a call for the input with a buffer that is large enough, and with one half as long as the
+// input, and raises `most` to what it used.
 static void measure(call *function, size_t *most)
 {
     size_t buffer_lengths[] = {ROOM, input_length / 2};

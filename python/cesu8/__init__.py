@@ -20,6 +20,7 @@ from __future__ import annotations
 
 from typing import TYPE_CHECKING, Union
 
+# Importing `_codec` registers the codecs.
 from . import _codec  # noqa: F401
 from ._native import (
     compare_as_utf16,
@@ -37,6 +38,7 @@ else:
     # The functions read any object with the buffer protocol, for which Python 3.10 has no type.
     Data = Union[bytes, bytearray, memoryview]
 
+# The version in the file VERSION: tests/version.sh compares them.
 __version__ = "1.0.0"
 __all__ = [
     "Data",
@@ -51,4 +53,5 @@ __all__ = [
 
 
 def __dir__() -> list[str]:
+    # Without this, `dir(cesu8)` would also list the private modules.
     return __all__

@@ -1,16 +1,10 @@
-//! Bytes as the lanes of vectors:
-//!
-//! - `class`, `groups`: classes of bytes, as tests of one vector and of four at once
-//! - `short`, `padded`: short slices, covered by two vectors or padded with zeros to one
-//! - `search`, `widths`: does a slice have a byte of a class?
-//! - `count`: how many bytes of a class does it have?
-//! - `runs`: how many bytes precede the first one of a class?
+//! Bytes as the lanes of vectors.
 
-pub mod class;
-pub mod count;
-pub mod groups;
-pub mod padded;
-pub mod runs;
-pub mod search;
-pub mod short;
-pub mod widths;
+pub mod class; // classes of bytes, and how one vector tests for them
+pub mod count; // how many bytes of a class a slice has
+pub mod groups; // tests of four vectors at once
+pub mod padded; // short slices, padded with zeros to one vector
+pub mod runs; // how many bytes precede the first one of a class
+pub mod search; // whether a slice has a byte of a class
+pub mod short; // short slices, covered by two vectors
+pub mod widths; // the search for the kernels, by vectors of each width

@@ -8,10 +8,8 @@ use std::simd::prelude::*;
 
 /// The length of an encoded surrogate pair.
 pub const PAIR: usize = 6;
-
 /// The length of its character in UTF-8.
 pub const PAIR_UTF8: usize = 4;
-
 /// How many bytes are read as one word. The two bytes after the pair do not matter.
 pub const PAIR_READ: usize = 8;
 

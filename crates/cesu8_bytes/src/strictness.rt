@@ -69,7 +69,7 @@ impl Reading for LossyReading {
     }
 
     #[inline(always)]
-    fn unless_rejected<T: Drop>(_is_refused: bool, read: T) -> Result<T, Infallible> {
+    fn unless_rejected<T: Drop>(_is_rejected: bool, read: T) -> Result<T, Infallible> {
         Ok(read)
     }
 }

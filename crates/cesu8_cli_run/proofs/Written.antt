@@ -1,4 +1,4 @@
--- Slices that are written a piece at a time.
+-- Slices that are written a piece at a time, for `write_whole`.
 use Rattle.std.proofs.Common.{◌≡◌, ℕ, ◌-◌, List, ◌++◌, length, take, drop, sym, ap, ◌∙◌, append_assoc}
 use Rattle.std.proofs.lemmas.List.{take_rest, take-append-drop}
 

@@ -1,7 +1,7 @@
 //! The length of a prefix of whole characters: of all encoded characters (the valid prefix), or
-//! only of those that are unchanged in UTF-8 (the unchanged prefix). If the ASCII
-//! fast path of a call fails, the call continues with the unchanged prefix. Strict decoding of more
-//! than 64 bytes continues after it, and other decoding starts again from the first byte.
+//! only of those that are unchanged in UTF-8 (the unchanged prefix). If the ASCII fast path of a
+//! call fails, the call continues with the unchanged prefix. Strict decoding of more than 64 bytes
+//! continues after it, and other decoding starts again from the first byte.
 //!
 //! Vectors find the first byte that cannot follow the bytes before it (`lanes::following`). The
 //! prefix ends there, or at the last character boundary before that byte if a character is cut off.
@@ -24,7 +24,6 @@ use std::simd::prelude::*;
 pub use window::UnchangedPrefix;
 use window::prefix_by_window;
 
-/// Returns the unchanged prefix.
 #[inline(always)]
 pub fn unchanged_prefix<F: Flavor>(bytes: &[u8]) -> UnchangedPrefix
     ensures { IsUnchangedPrefix F.flavor bytes.now result }
@@ -67,9 +66,8 @@ fn following_many<F: Flavor, S: CharacterSet>(bytes: &[u8]) -> usize
     following_from::<F, S>(bytes, run.max(BLOCK))
 }
 
-/// Returns the offset of the first byte that cannot follow the bytes before it, or the length if
-/// there is none. It tests two blocks at once from `start` on, and then one block at a time. The
-/// last block overlaps the one before it.
+/// Like `following_many`, if the bytes up to `start` are known to follow each other. It tests two
+/// blocks at once, and then one block at a time. The last block overlaps the one before it.
 #[inline(always)]
 fn following_from<F: Flavor, S: CharacterSet>(bytes: &[u8], start: usize) -> usize
     requires first { FirstFollow S.set F.flavor bytes.now start }
@@ -172,7 +170,6 @@ pub fn may_be_crossed<S: CharacterSet>(bytes: &[u8], at: usize) -> bool
         || begins_high_surrogate(byte_before(bytes, at, 4), third_last)
 }
 
-/// Returns whether two bytes begin a high surrogate.
 #[inline(always)]
 fn begins_high_surrogate(first: u8, second: u8) -> bool
     ensures { result ≡ is_high_surrogate AllEncoded first second }

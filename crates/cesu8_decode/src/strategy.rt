@@ -9,9 +9,8 @@
 //! | at most 4,096 (`LARGEST_ARRAY`) | `LargestArray` | chunks | the largest array |
 //! | more | `Chunks` | chunks | chunks |
 //!
-//! - One window: the test for the unchanged prefix has computed the masks of a window. If no byte
-//!   is ill-formed, `pass::short` writes the text by the mask of the characters that need conversion.
-//!   Otherwise strict decoding returns an error, and lossy decoding computes all masks again.
+//! - One window: the test for the unchanged prefix has found all that strict decoding needs, and
+//!   lossy decoding computes the window again only if a byte is ill-formed (`pass::short`).
 //! - The arrays: one pass over the bytes in windows of 64, written to an array on the stack from
 //!   which the text is copied. The pass has few branches on the content of a window, since they
 //!   would be mispredicted. The sizes are a matter of speed: a larger array takes longer to clear
@@ -47,14 +46,11 @@ pub enum Strategy {
 
 /// The most bytes that are decoded to the small array.
 pub const SMALL_ARRAY: usize = 256;
-
 /// The most bytes that are decoded to the large array at once.
 pub const LARGE_ARRAY: usize = 1024;
-
 /// The most bytes that lossy decoding writes to an array, so that no pass for the length is needed.
 pub const LARGEST_ARRAY: usize = 4096;
 
-/// Returns the strategy for the bytes.
 #[inline(always)]
 pub fn strategy_of(bytes: &[u8]) -> Strategy
     ensures { Takes result bytes.now }

@@ -88,7 +88,6 @@ fn character_start(bytes: &[u8], at: usize) -> usize
     at - 3
 }
 
-/// Returns whether a byte is a continuation byte.
 #[inline(always)]
 fn is_continuation(byte: u8) -> bool
     ensures { IsTrue result ↔ IsContinuation byte }
@@ -96,7 +95,6 @@ fn is_continuation(byte: u8) -> bool
     matches!(byte, 0x80..=0xBF)
 }
 
-/// Returns whether a part is UTF-8.
 #[inline(always)]
 fn is_part_utf8(bytes: &[u8]) -> bool
     ensures { IsTrue result ↔ IsUtf8 bytes.now }

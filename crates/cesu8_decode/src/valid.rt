@@ -1,8 +1,6 @@
-//! The length of the valid prefix: how many bytes from the start are whole encoded characters.
-//!
-//! At most 64 bytes are one window, whose masks show the bytes that no character covers. In longer
-//! input vectors find the first byte that cannot follow the bytes before it, and the prefix ends at
-//! the last character boundary up to there.
+//! The length of the valid prefix: how many bytes from the start are whole encoded characters. In at
+//! most 64 bytes, one window, it ends at the first byte that no character covers. `prefix` finds it
+//! in longer input.
 
 ghost use Rattle.std.specs.Prelude.{◌≡◌, IsTrue, false};
 ghost use Rattle.cesu8_text.specs.Fronts.{IsValidUpTo};
@@ -15,7 +13,6 @@ use cesu8_bytes::fast_paths::is_short_unchanged_ascii;
 use cesu8_bytes::flavor::Flavor;
 use cesu8_bytes::lanes::short::are_short;
 
-/// Returns the length of the valid prefix.
 #[inline(always)]
 pub fn valid_up_to<F: Flavor>(bytes: &[u8]) -> usize
     ensures { IsValidUpTo F.flavor bytes.now result }

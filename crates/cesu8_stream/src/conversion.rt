@@ -118,6 +118,7 @@ impl<E: Encoding> Conversion for FromEncoding<E> {
     }
 
     fn laws() {
+        // Laws do nothing at run time: the proof uses their contracts.
         laws::concat();
         laws::no_overlap();
     }

@@ -44,6 +44,7 @@ impl<E: Encoding> Decoding for FromEncoding<E> {
     }
 
     fn lossy_laws() {
+        // Laws do nothing at run time: the proof uses their contracts.
         laws::around();
         laws::split();
         laws::places();

@@ -32,7 +32,7 @@ pub fn convert<C: Conversion>(bytes: &[u8], buf: &mut [u8]) -> Progress
     }
 }
 
-/// Converts as much of the input as fits in the buffer, without looking at it as a whole first.
+/// Converts as much of the input as fits in the buffer, without `convert_window` first.
 pub fn convert_rest<C: Conversion>(bytes: &[u8], buf: &mut [u8]) -> Progress
     ensures { ConvertsPiece C.from C.to C.widest bytes.now result buf.old buf.new }
 {
@@ -56,7 +56,7 @@ pub fn convert_rest<C: Conversion>(bytes: &[u8], buf: &mut [u8]) -> Progress
 }
 
 /// Converts the whole characters of the input, if they are no longer than the buffer. It converts
-/// nothing if the bytes are ill-formed: then they are looked at twice.
+/// nothing if a byte is ill-formed: then `convert_rest` reads the bytes again.
 pub fn convert_window<C: Conversion>(bytes: &[u8], buf: &mut [u8]) -> Moved
     ensures moves { Converts C.from C.to bytes.now result.read result.written buf.old buf.new }
     ensures within { result.read ≤ length bytes.now }
@@ -124,7 +124,7 @@ pub fn first_len<C: Conversion>(bytes: &[u8]) -> usize
 {
     C::laws();
     let most = bytes.len().min(LONGEST);
-    // A damaged byte, in one call in place of six.
+    // This finds that no character begins the input in one call instead of six.
     if C::valid_up_to(&bytes[..most]) == 0 {
         return 0;
     }

@@ -1,4 +1,4 @@
-//! The law of calls in a row, in both encodings. The function does nothing: its contract is the
+//! The law of consecutive calls, in both encodings. The function does nothing: its contract is the
 //! law, for every list of calls.
 
 ghost use Rattle.cesu8_stream.specs.Laws.{StrictInPieces, EncodedInPieces, LossyInPieces};
@@ -11,5 +11,6 @@ pub fn in_pieces()
     ensures encoded { EncodedInPieces }
     ensures lossy { LossyInPieces }
 {
+    // A law does nothing at run time: the proof uses its contract.
     simd_cesu8::laws::concat();
 }

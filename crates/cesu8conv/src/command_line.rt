@@ -123,8 +123,8 @@ fn flavor_of(word: &str) -> FlavorWord {
     }
 }
 
-/// The task of a command, or `None` if it has no option `--lossy`. The first letter tells the
-/// commands apart that the command line takes.
+/// The task of a command, or `None` if it has no option `--lossy`. The first letters of the
+/// commands differ, and the command line accepts no other words.
 fn task_of(word: &str, flavor: FlavorWord, is_lossy: bool) -> Option<Task> {
     let conversion = match (word.as_bytes(), is_lossy) {
         ([b'e' | b'E', ..], false) => Conversion::Encode(flavor),

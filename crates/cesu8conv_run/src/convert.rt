@@ -41,6 +41,7 @@ pub fn convert<R: Read, W: Write, V: Watch>(
     ensures err { IfErr result (λ fault. StopsBy conversion fault (R.remaining input.old)
         (W.contents output.old) (W.contents output.new)) }
 {
+    // A law does nothing at run time: the proof uses its contract.
     laws::concat();
     if window.len() < LEAST || room.len() < LEAST {
         return Err(Fault::Size);
@@ -48,7 +49,7 @@ pub fn convert<R: Read, W: Write, V: Watch>(
     let mut offset = 0u64;
     let mut unread = 0;
     for _ in 0..u64::MAX {
-        // Neither comes to pass: less than a character is unread, and no input is so long.
+        // Neither can happen: less than a character is unread, and no input has that many bytes.
         if unread >= window.len() || offset > u64::MAX - window.len() as u64 {
             return Err(Fault::Size);
         }

@@ -31,7 +31,7 @@ impl<'a> Progress<'a> {
         })
     }
 
-    /// Shows that so many bytes were read, if the last line is old. A failure changes nothing.
+    /// Shows how many bytes were read, if the last line is old. A failure changes nothing.
     pub fn show(&mut self, offset: u64) {
         let Ok(passed) = self.start.elapsed(self.rt) else {
             return;

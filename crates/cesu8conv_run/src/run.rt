@@ -18,7 +18,7 @@ const WINDOW: usize = 65536;
 
 const ROOM: usize = 131072;
 
-/// From so many bytes on, a terminal shows progress by itself.
+/// From this many bytes on, progress is shown on a terminal without the option `--progress`.
 const LARGE: u64 = 100_000_000;
 
 /// Does a task on files, in two buffers, and returns the status.

@@ -1,7 +1,7 @@
 //! One step of a conversion: from the unread bytes of the input to a part of the output, both in
-//! memory. A step converts the whole characters at the start of the bytes, by `cesu8_stream`. Where
-//! that stops, the next step replaces the damaged byte or, for the mixed commands, passes a
-//! character of UTF-8 through.
+//! memory. A step converts the whole characters at the start of the bytes, by `cesu8_stream`. If it
+//! stops before a byte that begins none, the next step replaces that byte or, for the mixed
+//! commands, copies a character of UTF-8.
 
 ghost use Rattle.std.specs.Prelude.{◌≡◌, ◌≤◌, length, IsTrue, IsUtf8};
 ghost use Rattle.simd_cesu8.specs.Text.{utf8};
@@ -20,7 +20,7 @@ use std::simd::u8x32;
 /// U+FFFD in UTF-8.
 const REPLACEMENT: [u8; 3] = [0xEF, 0xBF, 0xBD];
 
-/// How far a mixed step looks for a character of UTF-8. What it reads twice is at most so long.
+/// How many bytes a mixed step searches for a character of UTF-8. It reads only these twice.
 const WINDOW: usize = 4096;
 
 /// What a step did, and what it needs to go on.
@@ -78,13 +78,13 @@ fn decode_step(flavor: FlavorWord, bytes: &[u8], is_last: bool, room: &mut [u8])
 fn lossy_step(flavor: FlavorWord, bytes: &[u8], is_last: bool, room: &mut [u8]) -> Step
     ensures { IsStep (Conversion.Lossy flavor) bytes.now is_last room.new result }
 {
+    // Laws do nothing at run time: the proof uses their contracts.
     laws::around();
     laws::places();
     replace(decode_step(flavor, bytes, is_last, room), room)
 }
 
-/// Decodes up to the next byte that only UTF-8 has, or passes the character through that begins
-/// with it.
+/// Decodes up to the next byte that only UTF-8 has, or copies the character that begins with it.
 fn mixed_step(flavor: FlavorWord, bytes: &[u8], is_last: bool, room: &mut [u8]) -> Step
     ensures { IsStep (Conversion.Mixed flavor) bytes.now is_last room.new result }
 {
@@ -119,7 +119,7 @@ fn front_step(flavor: FlavorWord, bytes: &[u8], len: usize, is_last: bool, room:
     }
 }
 
-/// Passes the character of UTF-8 through that comes next, or else decodes.
+/// Copies the character of UTF-8 that begins the bytes, if only UTF-8 has it. Otherwise it decodes.
 fn pass_step(flavor: FlavorWord, bytes: &[u8], is_last: bool, room: &mut [u8]) -> Step
     ensures { IsStep (Conversion.Mixed flavor) bytes.now is_last room.new result }
 {
@@ -175,8 +175,8 @@ fn after(front: Progress, is_last: bool) -> Step
     }
 }
 
-/// Goes on where a step stopped: first with what it converted, and then with U+FFFD for the byte
-/// there.
+/// Replaces the byte at which a step stopped by U+FFFD. If the step converted any bytes before it,
+/// another step has to replace it.
 fn replace(step: Step, room: &mut [u8]) -> Step
     ensures { Replaces step room.old room.new result }
 {

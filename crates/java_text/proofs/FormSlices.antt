@@ -1,4 +1,4 @@
--- Forms in a caller's buffer.
+-- Forms (a text's MUTF-8 after its length in two bytes) in a caller's buffer.
 use Rattle.std.proofs.Common.{◌≡◌, ℕ, ◌+◌, ◌/◌, ◌%◌, ◌<◌, ◌≤◌, List, [], ◌∷◌, ◌++◌, Ok, Err, refl, sym, ap, ◌∙◌, subst, arith, get_or, length, take, drop, append_assoc, length-drop}
 use Rattle.std.proofs.lemmas.Bool.{false≢true}
 use Rattle.std.proofs.lemmas.List.{take-append-drop, drop-append-le, length-take, length-take-le}

@@ -26,6 +26,7 @@ pub fn parts()
 pub fn one_form()
     ensures { OneForm }
 {
+    // A law does nothing at run time: the proof uses its contract.
     simd_cesu8::laws::round_trip();
 }
 

@@ -285,6 +285,7 @@ pub fn read_utf_lossy_to_slice<'b>(
     ensures { WritesCounted bytes.now (λ text. text ≡ reading Mutf8 (counted bytes.now))
         result buf.old buf.new }
 {
+    // A law does nothing at run time: the proof uses its contract.
     simd_cesu8::laws::bounds();
     let Ok((counted, rest)) = split_counted(bytes) else {
         return Err(ReadSliceFault::Truncated);

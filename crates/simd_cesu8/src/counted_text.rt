@@ -9,8 +9,8 @@ use crate::codec::encoding::Flavor;
 use crate::codec::{Cesu8Flavor, Mutf8Flavor, encode_into};
 use std::alloc::{AllocError, Global};
 
-/// A string with the length of its encoding, for formats that write the length first. The length is
-/// computed only once: [`encoded_len`](CountedText::encoded_len) returns it, and
+/// A string with the length of its encoding, which is computed only once:
+/// [`encoded_len`](CountedText::encoded_len) returns it, and
 /// [`encode_into`](CountedText::encode_into) uses it.
 ///
 /// ```rust

@@ -6,8 +6,7 @@ ghost use Rattle.simd_cesu8.specs.Fault.{message_of, slice_message_of, lossy_mes
 
 use std::alloc::AllocError;
 use std::error::Error;
-use std::fmt;
-use std::fmt::{Debug, Display, Formatter};
+use std::fmt::{self, Debug, Display, Formatter};
 
 /// The input decodes to no text. The error has neither a position nor a reason.
 ///

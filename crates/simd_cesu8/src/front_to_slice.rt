@@ -11,8 +11,7 @@ ghost use Rattle.simd_cesu8.specs.Class.{IsUnchangedUtf8};
 ghost use Rattle.simd_cesu8.specs.Reading.{IsStrictReading};
 ghost use Rattle.simd_cesu8.specs.Slices.{StandsAtFront, WritesReading};
 
-use crate::codec;
-use crate::codec::{EncodingAlone, Flavor, begins_with_unchanged_ascii};
+use crate::codec::{self, EncodingAlone, Flavor, begins_with_unchanged_ascii};
 use crate::error::DecodeSliceFault;
 use std::simd::prelude::*;
 
@@ -82,8 +81,7 @@ fn decode_by_call<F: Flavor>(bytes: &[u8], buf: &mut [u8]) -> Result<usize, Deco
     decode_called::<F>(bytes, buf)
 }
 
-/// Decodes the bytes strictly to the buffer. It is not inlined, to keep the code of the fast path
-/// small.
+/// Decodes strictly to the buffer. It is not inlined, to keep the code of the fast path small.
 #[inline(never)]
 fn decode_called<F: Flavor>(bytes: &[u8], buf: &mut [u8]) -> Result<usize, DecodeSliceFault>
     ensures { WritesReading (IsStrictReading F.flavor bytes.now) result buf.old buf.new }

@@ -27,9 +27,8 @@
 //! | bytes that are UTF-8, or else the encoding | their text, or an error | [`decode`] |
 //! | bytes that are UTF-8 or the encoding, perhaps damaged | text, in any case | [`decode_lossy`] |
 //!
-//! Four calls write the UTF-8 of the text to your buffer, without an allocator:
 //! [`decode_strict_to_slice`], [`decode_lossy_strict_to_slice`], [`decode_to_slice`] and
-//! [`decode_lossy_to_slice`].
+//! [`decode_lossy_to_slice`] write the text's UTF-8 to your buffer, without an allocator.
 //!
 //! The root's calls are for CESU-8, and those of [`mutf8`] for MUTF-8. The UTF-16 code units are
 //! the same for both, so only the root has [`utf16_len`] and [`compare_as_utf16`].
@@ -189,8 +188,6 @@ pub fn encode_into(value: &str, buf: &mut Vec<u8>) -> Result<(), AllocError>
     ensures ok { OnOk result (buf.new.items ≡ buf.old.items ++ encoding Cesu8 (chars value.now)) }
     ensures err { OnErr result (buf.new.items ≡ buf.old.items) }
     ensures err_capacity { OnErr result (vec_capacity buf.new ≡ vec_capacity buf.old) }
-
-    // With enough capacity the call allocates nothing, and returns no error.
     ensures room { vec_len buf.old + length (encoding Cesu8 (chars value.now))
         ≤ vec_capacity buf.old → IsOk result }
     ensures stays { vec_len buf.old + length (encoding Cesu8 (chars value.now))
@@ -201,8 +198,7 @@ pub fn encode_into(value: &str, buf: &mut Vec<u8>) -> Result<(), AllocError>
     counted(value).encode_into(buf)
 }
 
-/// Decodes CESU-8 (Unicode Technical Report 26) strictly: returns the text whose encoding the bytes
-/// are.
+/// Decodes CESU-8 (Unicode Technical Report 26) strictly, to the text whose encoding the bytes are.
 ///
 /// The result borrows the bytes if they are the text's UTF-8, and then nothing is allocated.
 /// Otherwise the call allocates the input's length in bytes, once, and returns `Memory` if that
@@ -230,9 +226,8 @@ pub fn decode_strict(alloc: Global, bytes: &[u8]) -> Result<CowText<'_>, DecodeF
     decode_as::<Cesu8Flavor, EncodingAlone>(alloc, bytes)
 }
 
-/// Decodes a string in CESU-8 (Unicode Technical Report 26) at the start of the bytes strictly:
-/// returns what [`decode_strict`] returns for the first `len` bytes, or for all bytes if there are
-/// fewer.
+/// Decodes a string in CESU-8 (Unicode Technical Report 26) at the start of the bytes strictly, as
+/// [`decode_strict`] decodes the first `len` bytes, or all bytes if there are fewer.
 ///
 /// Use it for strings that follow one another. It may read the bytes after the string, which never
 /// change the result. So its time depends less on the length of short ASCII.
@@ -427,13 +422,12 @@ pub fn encode_to_slice(value: &str, buf: &mut [u8]) -> Result<usize, TooShort>
 }
 
 /// Decodes CESU-8 (Unicode Technical Report 26) strictly, and writes the text's UTF-8 to the
-/// caller's buffer.
+/// caller's buffer. The call allocates nothing.
 ///
 /// It returns the number of bytes that it wrote to the start of the buffer, and leaves the rest
 /// unchanged. It returns `Invalid` exactly when the bytes are the encoding of no text. It returns
 /// `TooShort`, with the needed length in bytes, exactly when the text is longer than the buffer.
-/// After an error the whole buffer is unchanged. The text is never longer than its encoding. The
-/// call allocates nothing.
+/// After an error the whole buffer is unchanged. The text is never longer than its encoding.
 ///
 /// ```rust
 /// let mut buf = [0xEE; 6];
@@ -492,13 +486,12 @@ pub fn decode_lossy_strict_to_slice(bytes: &[u8], buf: &mut [u8]) -> Result<usiz
 
 /// Decodes bytes that are UTF-8 as a whole, or else CESU-8 (Unicode Technical Report 26) that may
 /// be damaged, and writes the text's UTF-8 to the caller's buffer. For the latter it writes each
-/// encoded character, and U+FFFD for each byte that is not part of one.
+/// encoded character, and U+FFFD for each byte that is not part of one. The call allocates nothing.
 ///
 /// It returns the number of bytes that it wrote to the start of the buffer, and leaves the rest
 /// unchanged. It returns `TooShort`, with the needed length in bytes, exactly when the text is
 /// longer than the buffer. It returns `TooLong` instead if that length does not fit `usize`, which
-/// never happens for UTF-8. After an error the whole buffer is unchanged. The call allocates
-/// nothing.
+/// never happens for UTF-8. After an error the whole buffer is unchanged.
 ///
 /// ```rust
 /// let mut buf = [0xEE; 4];

@@ -101,8 +101,6 @@ pub fn encode_into(value: &str, buf: &mut Vec<u8>) -> Result<(), AllocError>
     ensures ok { OnOk result (buf.new.items ≡ buf.old.items ++ encoding Mutf8 (chars value.now)) }
     ensures err { OnErr result (buf.new.items ≡ buf.old.items) }
     ensures err_capacity { OnErr result (vec_capacity buf.new ≡ vec_capacity buf.old) }
-
-    // With enough capacity the call allocates nothing, and returns no error.
     ensures room { vec_len buf.old + length (encoding Mutf8 (chars value.now))
         ≤ vec_capacity buf.old → IsOk result }
     ensures stays { vec_len buf.old + length (encoding Mutf8 (chars value.now))
@@ -251,9 +249,6 @@ pub fn lossy_len(bytes: &[u8]) -> Option<usize>
 pub fn valid_up_to(bytes: &[u8]) -> usize
     ensures within { result ≤ length bytes.now }
     ensures valid { HasStrictReading Mutf8 (take result bytes.now) }
-
-    // If bytes follow the prefix, no encoded character begins there, no longer prefix has a strict
-    // reading, and the lossy reading replaces the next byte.
     ensures stops { result < length bytes.now → NoneBegins Mutf8 (drop result bytes.now) }
     ensures greatest { (n : ℕ) → result < n → n ≤ length bytes.now
         → HasNoStrictReading Mutf8 (take n bytes.now) }
@@ -269,7 +264,6 @@ pub fn valid_up_to(bytes: &[u8]) -> usize
 /// assert_eq!(rt; simd_cesu8::mutf8::encode_to_slice("a\0", &mut buf)?, 3);
 /// assert_eq!(rt; buf.as_slice(), b"a\xC0\x80\xEE".as_slice());
 /// ```
-// Inlined for the reason that `crate::encode_to_slice` gives.
 #[inline(always)]
 pub fn encode_to_slice(value: &str, buf: &mut [u8]) -> Result<usize, TooShort>
     ensures { WritesAnswer (encoding Mutf8 (chars value.now)) result buf.old buf.new }
@@ -305,8 +299,7 @@ pub fn decode_to_slice(bytes: &[u8], buf: &mut [u8]) -> Result<usize, DecodeSlic
     codec::decode_to_slice::<Mutf8Flavor, Lenient>(bytes, buf)
 }
 
-/// Like [`crate::decode_lossy_strict_to_slice`], for MUTF-8. It also replaces a raw byte 00 by
-/// U+FFFD.
+/// Like [`crate::decode_lossy_strict_to_slice`], for MUTF-8. A raw byte 00 becomes U+FFFD too.
 ///
 /// ```rust
 /// let mut buf = [0xEE; 6];

@@ -1,4 +1,4 @@
--- A log loses bytes exactly when it is no encoding.
+-- A log loses bytes exactly when it is no encoding, for `repair_log`.
 use Rattle.std.proofs.Common.{◌≡◌, ℕ, List, [], ◌∷◌, ◌++◌, map, refl, sym, ap, ◌∙◌, subst, arith}
 use Rattle.simd_cesu8.specs.Text.{IsText}
 use Rattle.simd_cesu8.specs.Encoding.{Flavor, Cesu8, encoding}

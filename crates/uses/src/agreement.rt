@@ -12,6 +12,7 @@ use std::alloc::{AllocError, Global};
 pub fn needs_or_borrows(alloc: Global, text: &str) -> Result<bool, AllocError>
     ensures { IfOk result (λ agree. IsTrue agree) }
 {
+    // Laws do nothing at run time: the proof uses their contracts.
     laws::chars();
     laws::needs();
     let is_borrowed = simd_cesu8::encode(alloc, text)?.is_borrowed();

@@ -38,6 +38,7 @@ pub fn fill_arena(texts: &[&str], arena: &mut [u8], ends: &mut [usize]) -> Resul
     ensures next { IfErr result (λ full. (full.count < length texts.now) × (0 < full.missing)
         × (length (first_encoded texts.now (full.count + 1)) ≡ length arena.old + full.missing)) }
 {
+    // A law does nothing at run time: the proof uses its contract.
     laws::concat();
     let mut used = 0;
     for (count, text) in texts.iter().enumerate() {

@@ -55,6 +55,7 @@ impl Entry {
             × (self.new.name_len ≡ self.old.name_len)) }
         ensures id { self.new.id ≡ self.old.id }
     {
+        // A law does nothing at run time: the proof uses its contract.
         laws::chars();
         let len = mutf8::encode_to_slice(name, &mut self.name)?;
         self.name_len = len as u8;

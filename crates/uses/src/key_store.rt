@@ -27,11 +27,15 @@ pub type Store = BTreeMap<Vec<u8>, u64>;
 /// ```
 pub fn put_value(alloc: Global, store: &mut Store, key: &str, value: u64) -> Result<(), AllocError>
     ensures ok { OnOk result (value_at store.new (chars key.now) ≡ Some value) }
+
+    // The values of all other texts are unchanged.
     ensures others { (other : List ℕ) → IsText other → other ≢ chars key.now
         → value_at store.new other ≡ value_at store.old other }
     ensures err { OnErr result (IsUnchanged store.old store.new) }
     ensures order { OnOk result (IsInUtf16Order store.new) }
 {
+    // Each call does nothing at run time. Its contract is a law that the proof uses: a `&str` is a
+    // text, different texts have different keys, and keys compare as UTF-16 does.
     laws::chars();
     laws::round_trip();
     laws::key_order();

@@ -17,6 +17,7 @@ pub fn key_without_zero(alloc: Global, text: &str) -> Result<Vec<u8>, AllocError
     ensures bytes { IfOk result (λ key. key.items ≡ encoding Mutf8 (chars text.now)) }
     ensures no_zero { IfOk result (λ key. All (λ byte. byte ≢ 0) key.items) }
 {
+    // Laws do nothing at run time: the proof uses their contracts.
     laws::chars();
     laws::no_zero();
     mutf8::encode(alloc, text)?.into_vec(alloc)

@@ -25,6 +25,7 @@ pub fn append_all(texts: &[&str], buf: &mut Vec<u8>) -> Result<(), AllocError>
     ensures room { vec_len buf.old + length (encoding Cesu8 (joined texts.now))
         ≤ vec_capacity buf.old → IsOk result }
 {
+    // A law does nothing at run time: the proof uses its contract.
     laws::concat();
     let room = encoded_len(texts).ok_or(AllocError)?;
     buf.reserve_exact(room)?;

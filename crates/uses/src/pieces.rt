@@ -32,6 +32,7 @@ pub fn append_piece(bytes: &mut Vec<u8>, text: &mut Vec<u8>) -> Result<State, Al
     ensures err_text { OnErr result (text.new.items ≡ text.old.items) }
     ensures err_bytes { OnErr result (bytes.new.items ≡ bytes.old.items) }
 {
+    // Laws do nothing at run time: the proof uses their contracts.
     laws::bounds();
     laws::concat();
     let start = text.len();

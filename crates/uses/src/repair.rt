@@ -44,6 +44,7 @@ pub fn repair_log(alloc: Global, log: &[u8]) -> Result<Repaired<'_>, AllocError>
         ReplacesFewest log.now (chars (answer_text repaired.text))) }
     ensures succeeds { IsUnchangedUtf8 Cesu8 log.now → IsOk result }
 {
+    // Laws do nothing at run time: the proof uses their contracts.
     laws::concat();
     laws::lossy();
     laws::middle();

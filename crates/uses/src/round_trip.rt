@@ -21,6 +21,7 @@ use std::alloc::{AllocError, Global};
 pub fn encode_and_decode(alloc: Global, text: &str) -> Result<String, AllocError>
     ensures { IfOk result (λ back. string_bytes back ≡ text.now) }
 {
+    // A law does nothing at run time: the proof uses its contract.
     laws::inverse();
     let encoded = simd_cesu8::encode(alloc, text)?;
     match simd_cesu8::decode_strict(alloc, encoded.as_bytes()) {

@@ -39,6 +39,7 @@ fn append_strings(alloc: Global, source: &[u8], target: &mut Vec<u8>) -> Result<
     ensures refused { OnRefused result (NoneAreRead source.now) }
     ensures grown { (more : List ℕ) × (target.new.items ≡ target.old.items ++ more) }
 {
+    // Laws do nothing at run time: the proof uses their contracts.
     laws::bounds();
     laws::in_turn();
     let mut rest = source;

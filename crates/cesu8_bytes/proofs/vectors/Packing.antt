@@ -48,23 +48,23 @@ kept_one : (g : ℕ → ℕ) (i : ℕ) (s d : Bool) (xs ys : List ℕ) → (d �
 kept_one g i s d xs ys r e = grind (arith, common_steps)
 
 -- The lanes that are kept are what is written.
-kept_written : (g : ℕ → ℕ) (gone ill_formed : List Bool) (i : ℕ) → length ill_formed ≡ length gone → HasReplacement g (mask_l ill_formed) →
-    map g (kept_of (mask_l gone) (mask_l ill_formed) i (length gone)) ≡ written gone ill_formed (map g (range_with_len i (length gone)))
+kept_written : (g : ℕ → ℕ) (dropped ill_formed : List Bool) (i : ℕ) → length ill_formed ≡ length dropped → HasReplacement g (mask_l ill_formed) →
+    map g (kept_of (mask_l dropped) (mask_l ill_formed) i (length dropped)) ≡ written dropped ill_formed (map g (range_with_len i (length dropped)))
 kept_written g [] ill_formed i e r = refl
-kept_written g (s ∷ gone) [] i e r = absurd (omega arith)
-kept_written g (s ∷ gone) (d ∷ ill_formed) i e r =
-    let dropped = lowest s (mask_l gone) in
+kept_written g (s ∷ dropped) [] i e r = absurd (omega arith)
+kept_written g (s ∷ dropped) (d ∷ ill_formed) i e r =
+    let lowest_dropped = lowest s (mask_l dropped) in
     let replaced = lowest d (mask_l ill_formed) in
     let here = λ (is : d ≡ true). r (grind arith) in
     let later = λ (some : 0 < mask_l ill_formed). r (omega arith) in
-    rw (dropped.0, dropped.1, replaced.0, replaced.1) (kept_one g i s d _ _ here (kept_written g gone ill_formed (i + 1) (omega arith) later))
+    rw (lowest_dropped.0, lowest_dropped.1, replaced.0, replaced.1) (kept_one g i s d _ _ here (kept_written g dropped ill_formed (i + 1) (omega arith) later))
 
 -- The lanes that two sets keep are what is written for the tests whose masks the sets are.
-pub lanes_written : (n gone_set ill_formed_set : ℕ) (lanes : List ℕ) (gone ill_formed : List Bool) → length gone ≡ n → length ill_formed ≡ n →
-    gone_set ≡ mask_l gone → ill_formed_set ≡ mask_l ill_formed → lanes_at lanes (range_with_len 0 n) ≡ chunk 0 n lanes →
+pub lanes_written : (n dropped_set ill_formed_set : ℕ) (lanes : List ℕ) (dropped ill_formed : List Bool) → length dropped ≡ n → length ill_formed ≡ n →
+    dropped_set ≡ mask_l dropped → ill_formed_set ≡ mask_l ill_formed → lanes_at lanes (range_with_len 0 n) ≡ chunk 0 n lanes →
     HasReplacement (λ j. get_or lanes (j % 0x10) 0) ill_formed_set →
-    lanes_at lanes (kept_of gone_set ill_formed_set 0 n) ≡ written gone ill_formed (chunk 0 n lanes)
-lanes_written n gone_set ill_formed_set lanes gone ill_formed g d gone_is ill_formed_is front replacement = grind (arith, common_steps, kept_written)
+    lanes_at lanes (kept_of dropped_set ill_formed_set 0 n) ≡ written dropped ill_formed (chunk 0 n lanes)
+lanes_written n dropped_set ill_formed_set lanes dropped ill_formed g d dropped_is ill_formed_is front replacement = grind (arith, common_steps, kept_written)
 
 -- ---- a row that keeps some lanes
 
@@ -78,10 +78,10 @@ pub at_most : (kept : ℕ → List ℕ) (bound : ℕ) → agree_below (is_short 
 unfolding is_short
 at_most kept bound e set l = leb-true _ _ (agree_below_at (is_short kept bound) (λ _. true) 0x100 set e l)
 
-module _ (n gone_set ill_formed_set bound : ℕ) (row : List ℕ) (row_is : row ≡ shuffle_keeping (kept_of gone_set ill_formed_set 0 n))
-    (bounded : length (kept_of gone_set ill_formed_set 0 n) ≤ bound) (fits : bound ≤ 15) where
+module _ (n dropped_set ill_formed_set bound : ℕ) (row : List ℕ) (row_is : row ≡ shuffle_keeping (kept_of dropped_set ill_formed_set 0 n))
+    (bounded : length (kept_of dropped_set ill_formed_set 0 n) ≤ bound) (fits : bound ≤ 15) where
   abbrev kept : List ℕ
-  kept = kept_of gone_set ill_formed_set 0 n
+  kept = kept_of dropped_set ill_formed_set 0 n
 
   -- The unused numbers of the row.
   abbrev zeros : List ℕ
@@ -116,44 +116,44 @@ module _ (n gone_set ill_formed_set bound : ℕ) (row : List ℕ) (row_is : row 
 
 -- The lanes that a row of eight bytes keeps.
 abbrev kept_of_eight : ℕ → List ℕ
-kept_of_eight gone = kept_of gone 0 0 8
+kept_of_eight dropped = kept_of dropped 0 0 8
 
 -- A row of eight bytes keeps at most eight lanes.
-pub at_most_eight : (gone : ℕ) → gone < 0x100 → length (kept_of_eight gone) ≤ 8
+pub at_most_eight : (dropped : ℕ) → dropped < 0x100 → length (kept_of_eight dropped) ≤ 8
 unfolding is_short
 at_most_eight = at_most kept_of_eight 8 refl
 
 -- ---- bytes in parts
 
 -- What is written for bytes is what is written for the first n, then what is written for the rest.
-written_parts : (n : ℕ) (gone ill_formed : List Bool) (bytes : List ℕ) → length gone ≡ length ill_formed → length gone ≡ length bytes →
-    written gone ill_formed bytes ≡ written (take n gone) (take n ill_formed) (take n bytes) ++ written (drop n gone) (drop n ill_formed) (drop n bytes)
-written_parts zero gone ill_formed bytes e f = refl
+written_parts : (n : ℕ) (dropped ill_formed : List Bool) (bytes : List ℕ) → length dropped ≡ length ill_formed → length dropped ≡ length bytes →
+    written dropped ill_formed bytes ≡ written (take n dropped) (take n ill_formed) (take n bytes) ++ written (drop n dropped) (drop n ill_formed) (drop n bytes)
+written_parts zero dropped ill_formed bytes e f = refl
 written_parts (suc n) [] ill_formed bytes e f = refl
-written_parts (suc n) (g ∷ gone) [] bytes e f = absurd (omega arith)
-written_parts (suc n) (g ∷ gone) (d ∷ ill_formed) [] e f = absurd (omega arith)
-written_parts (suc n) (g ∷ gone) (d ∷ ill_formed) (b ∷ bytes) e f =
-    grind (arith, append_assoc, written_parts n gone ill_formed bytes)
+written_parts (suc n) (g ∷ dropped) [] bytes e f = absurd (omega arith)
+written_parts (suc n) (g ∷ dropped) (d ∷ ill_formed) [] e f = absurd (omega arith)
+written_parts (suc n) (g ∷ dropped) (d ∷ ill_formed) (b ∷ bytes) e f =
+    grind (arith, append_assoc, written_parts n dropped ill_formed bytes)
 
-module _ (gone ill_formed : List Bool) (bytes : List ℕ) where
+module _ (dropped ill_formed : List Bool) (bytes : List ℕ) where
   -- What is written for n bytes from a on.
   abbrev pub part : ℕ → ℕ → List ℕ
-  part a n = written (chunk a n gone) (chunk a n ill_formed) (chunk a n bytes)
+  part a n = written (chunk a n dropped) (chunk a n ill_formed) (chunk a n bytes)
 
   -- What is written for all bytes from a on.
   abbrev rest : ℕ → List ℕ
-  rest a = written (drop a gone) (drop a ill_formed) (drop a bytes)
+  rest a = written (drop a dropped) (drop a ill_formed) (drop a bytes)
 
-  module _ (long : ℕ) (g : length gone ≡ long) (d : length ill_formed ≡ long) (b : length bytes ≡ long) where
+  module _ (long : ℕ) (g : length dropped ≡ long) (d : length ill_formed ≡ long) (b : length bytes ≡ long) where
     next : (a n : ℕ) → rest a ≡ part a n ++ rest (a + n)
     next a n =
-        written_parts n (drop a gone) (drop a ill_formed) (drop a bytes)
-        (omega (arith, length-drop a gone, length-drop a ill_formed)) (omega (arith, length-drop a gone, length-drop a bytes))
-        ∙ rw (drop-drop n a gone, drop-drop n a ill_formed, drop-drop n a bytes) refl
+        written_parts n (drop a dropped) (drop a ill_formed) (drop a bytes)
+        (omega (arith, length-drop a dropped, length-drop a ill_formed)) (omega (arith, length-drop a dropped, length-drop a bytes))
+        ∙ rw (drop-drop n a dropped, drop-drop n a ill_formed, drop-drop n a bytes) refl
 
     -- The last part is all that is left.
     last : (a n : ℕ) → a + n ≡ long → rest a ≡ part a n
-    last a n e = next a n ∙ rw (drop_all (a + n) gone (omega arith)) (append-nil (part a n))
+    last a n e = next a n ∙ rw (drop_all (a + n) dropped (omega arith)) (append-nil (part a n))
 
     -- What is written for all bytes is what is written for four parts in turn.
     pub in_four : (n : ℕ) → 0 + n + n + n + n ≡ long → rest 0 ≡ part 0 n ++ (part (0 + n) n ++ (part (0 + n + n) n ++ part (0 + n + n + n) n))

@@ -3,8 +3,7 @@
 ghost use Rattle.std.specs.Prelude.{IsTrue, ◌↔◌, Any};
 ghost use Rattle.cesu8_text.specs.Class.{IsFour, IsNullFour};
 
-/// Returns whether some byte is F0 to F7 (hexadecimal). In UTF-8 these are the lead bytes of
-/// characters of four bytes.
+/// Returns whether some byte is F0 to F7 (hexadecimal): in UTF-8, the lead byte of four bytes.
 ///
 /// ```rust
 /// use simd_cesu8::implementation::fallback;

@@ -7,8 +7,7 @@ use super::fallback;
 use crate::lanes::class::{Either, FourByteLead, Null};
 use crate::lanes::widths::any_by_widths;
 
-/// Returns whether some byte is F0 to F7 (hexadecimal). In UTF-8 these are the lead bytes of
-/// characters of four bytes.
+/// Returns whether some byte is F0 to F7 (hexadecimal): in UTF-8, the lead byte of four bytes.
 ///
 /// ```rust
 /// use simd_cesu8::implementation::simd;

@@ -7,8 +7,7 @@ ghost use Rattle.cesu8_text.specs.Class.{IsFour, IsNullFour};
 use super::fallback;
 use crate::words::{contains_four, contains_null_or_four, test_word_any};
 
-/// Returns whether some byte is F0 to F7 (hexadecimal). In UTF-8 these are the lead bytes of
-/// characters of four bytes.
+/// Returns whether some byte is F0 to F7 (hexadecimal): in UTF-8, the lead byte of four bytes.
 ///
 /// ```rust
 /// use simd_cesu8::implementation::word;

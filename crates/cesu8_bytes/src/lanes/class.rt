@@ -74,31 +74,22 @@ pub fn mask<C: InVectors<32>>(bytes: u8x32) -> u8x32
 
 /// The empty class: CESU-8 encodes no byte as C0 80. MUTF-8 has `Null` in its place.
 pub struct NoByte;
-
 /// The one byte `BYTE`.
 pub struct Equal<const BYTE: u8>;
-
 /// The byte 00.
 pub type Null = Equal<0>;
-
 /// F0 to F7 (hexadecimal), tested by the upper five bits. The kernels use it, for any bytes.
 pub struct FourByteLead;
-
 /// `BYTE` and all greater bytes.
 pub struct AtLeast<const BYTE: u8>;
-
 /// F0 (hexadecimal) or more: in UTF-8 the four-byte leads. `groups` tests for these by maxima.
 pub type AtLeastF0 = AtLeast<0xF0>;
-
 /// 80 (hexadecimal) or more: not ASCII.
 pub type NonAscii = AtLeast<0x80>;
-
 /// The bytes that are in `A` or in `B`.
 pub struct Either<A, B>(PhantomData<(A, B)>);
-
 /// Continuation bytes: 80 to BF (hexadecimal).
 pub struct Continuation;
-
 /// In UTF-8, the lead bytes of one UTF-16 code unit: 00 to 7F, or C0 to EF (hexadecimal).
 pub struct OneUnit;
 

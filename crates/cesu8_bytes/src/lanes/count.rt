@@ -36,7 +36,6 @@ impl CountsOne for OneUnit {
 
 /// The vectors in a block. More of them would save sums, but leave more bytes to masks.
 const VECTORS_IN_LANES: usize = 16;
-
 /// The bytes in a block.
 const BYTES_IN_LANES: usize = VECTORS_IN_LANES * LANES;
 
@@ -111,7 +110,6 @@ fn remainder_weight<C: CountsOne>(value: &[u8]) -> usize
     weight + end_weight::<C, LANES>(value, left)
 }
 
-/// Returns the sum of the weights of at most 64 bytes.
 #[inline(always)]
 fn short_weight<C: CountsOne>(value: &[u8]) -> usize
     requires { length value.now ≤ LANES }

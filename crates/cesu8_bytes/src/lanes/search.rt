@@ -47,7 +47,6 @@ pub fn any_in_chunks<C: InGroups>(chunks: &[[u8; LANES]]) -> bool
     any_in_groups::<C>(groups) || any_in_each::<C, LANES>(rest)
 }
 
-/// Returns whether some byte of the groups is in the class.
 #[inline(always)]
 fn any_in_groups<C: InGroups>(groups: &[[[u8; LANES]; 4]]) -> bool
     ensures { IsTrue result ↔ Any (Any (AnyIn C.class)) groups.now }

@@ -14,7 +14,6 @@ use std::simd::prelude::*;
 
 /// The vector that appends 17 to 64 bytes: four of them cover `LANES`.
 const WIDE: usize = 16;
-
 /// The vector that appends 4 to 16 bytes: four of them cover `WIDE`. Fewer bytes are copied singly.
 const NARROW: usize = 4;
 

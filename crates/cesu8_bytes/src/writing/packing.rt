@@ -13,36 +13,35 @@ use std::simd::prelude::*;
 
 /// The bytes that a packed row stores. The last of them may be garbage: buffers have room for them.
 pub const STORED: usize = 16;
-
 /// Half a block: the 16 lanes that `swizzle_dyn_within` selects from. The tables have this size.
 pub const HALF: usize = BLOCK / 2;
 
 /// Stores 32 bytes without those that are dropped, and returns the offset after them. Bit `i` of
-/// `gone` is set if byte `i` is dropped. The bits above these are ignored.
+/// `dropped` is set if byte `i` is dropped. The bits above these are ignored.
 #[inline(always)]
-pub fn store_kept(bytes: u8x32, gone: usize, out: &mut [u8], at: usize) -> usize
+pub fn store_kept(bytes: u8x32, dropped: usize, out: &mut [u8], at: usize) -> usize
     requires { at + BLOCK + STORED ≤ length out.old }
-    ensures { (tests : List Bool) → BLOCK ≤ length tests → gone ≡ mask_l tests
+    ensures { (tests : List Bool) → BLOCK ≤ length tests → dropped ≡ mask_l tests
         → WritesAt (written (take BLOCK tests) (replicate BLOCK false) bytes)
         at out.old out.new result }
 {
     let first = bytes.extract::<0, HALF>();
     let third = bytes.extract::<HALF, HALF>();
-    let at = store_eight(first, gone & 0xFF, out, at);
-    let at = store_eight(second_of(first), gone >> 8 & 0xFF, out, at);
-    let at = store_eight(third, gone >> 16 & 0xFF, out, at);
-    store_eight(second_of(third), gone >> 24 & 0xFF, out, at)
+    let at = store_eight(first, dropped & 0xFF, out, at);
+    let at = store_eight(second_of(first), dropped >> 8 & 0xFF, out, at);
+    let at = store_eight(third, dropped >> 16 & 0xFF, out, at);
+    store_eight(second_of(third), dropped >> 24 & 0xFF, out, at)
 }
 
 /// Stores eight bytes without those that are dropped, and returns the offset after them.
 #[inline(always)]
-fn store_eight(lanes: u8x16, gone: usize, out: &mut [u8], at: usize) -> usize
-    requires small { gone < 0x100 }
+fn store_eight(lanes: u8x16, dropped: usize, out: &mut [u8], at: usize) -> usize
+    requires small { dropped < 0x100 }
     requires room { at + STORED ≤ length out.old }
-    ensures kept { WritesAt (lanes_at lanes (kept_of gone 0 0 8)) at out.old out.new result }
+    ensures kept { WritesAt (lanes_at lanes (kept_of dropped 0 0 8)) at out.old out.new result }
     ensures few { result ≤ at + 8 }
 {
-    let row = &rows_of_eight()[gone];
+    let row = &rows_of_eight()[dropped];
     let packed = picked(lanes, u8x16::from_array(*row));
     packed.copy_to_slice(&mut out[at..]);
     at + row[15] as usize

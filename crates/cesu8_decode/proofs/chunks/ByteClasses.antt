@@ -1,4 +1,4 @@
--- The class of two adjacent bytes, and what it says about them.
+-- The class of two adjacent bytes (`pair_class` in specs/Following), and what it says about them.
 use Rattle.std.proofs.Common.{◌≡◌, ℕ, ◌<◌, ◌≤◌, ◌⊎◌, inl, inr, Bool, true, false, ◌&&◌, not, cond, eqb, leb, ltb, ⊎_elim, arith}
 use Rattle.std.proofs.lemmas.Bool.{cases_lt, le-leb, le-ltb}
 use Rattle.std.proofs.lemmas.Bool.Decides.{nat_tests}

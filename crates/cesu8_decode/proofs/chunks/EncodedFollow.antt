@@ -1,4 +1,5 @@
--- The bytes of whole characters can follow each other.
+-- The bytes of whole characters can follow each other. So no prefix of whole characters extends past
+-- the first byte that cannot follow (`LongestPrefixes`).
 use Rattle.std.proofs.Common.{◌≡◌, ℕ, ◌+◌, ◌<◌, ◌≤◌, ◌⊎◌, inl, inr, true, false, List, [], ◌∷◌, ◌++◌, refl, subst, arith, length, take}
 use Rattle.std.specs.List.{Any}
 use Rattle.std.proofs.lemmas.Bool.{lt-leb, le-leb, cases_Bool}

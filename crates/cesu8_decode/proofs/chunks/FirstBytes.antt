@@ -1,5 +1,6 @@
 -- Some bytes show by their value alone that a character boundary is right before them: every byte
--- that cannot be the second or a later byte of an encoded character.
+-- that cannot be the second or a later byte of an encoded character. `first_part` of
+-- src/destinations/strings.rt splits its input before such a byte.
 use Rattle.std.proofs.Common.{◌≡◌, ℕ, zero, suc, ◌+◌, ◌-◌, ◌<◌, ◌≤◌, ◌⊎◌, inl, ⊎_elim, List, [], ◌∷◌, ◌++◌, sym, ap, ◌∙◌, subst, arith, length, take, drop, get_or}
 use Rattle.std.specs.Prelude.{⊤}
 use Rattle.std.proofs.lemmas.Bool.{cases_lt}
@@ -12,7 +13,8 @@ use Rattle.cesu8_text.proofs.encoding.Forms.{encoding_two, encoding_three, encod
 use Rattle.cesu8_decode.proofs.by_offset.FirstWidths.{ascii_forms}
 use Rattle.cesu8_text.proofs.text.Shapes.{Shape, one, two, three, pair, shape}
 
--- The byte can be a later byte of a character: a continuation byte, or ED.
+-- The byte can be a later byte of a character: a continuation byte, or ED (hexadecimal), which is
+-- also the fourth byte of a surrogate pair.
 abbrev pub MayBeLater : ℕ → Type 0
 MayBeLater b = IsContinuation b ⊎ (b ≡ 0xED)
 

@@ -1,4 +1,4 @@
--- The length of the longest prefix of whole characters of a set.
+-- The length of the longest prefix of whole characters of a set, for `prefix.rt` and `valid.rt`.
 use Rattle.std.proofs.Common.{◌≡◌, ℕ, ◌+◌, ◌<◌, ◌≤◌, ◌↔◌, ⊎_elim, true, false, true≢false, cond, leb, get_or, List, [], ◌∷◌, ◌++◌, sym, ap, ◌∙◌, subst, arith, length, take, drop, length-append, length-drop}
 use Rattle.std.proofs.Math.Seq.{take-add, take-append_seam, take-length}
 use Rattle.std.proofs.lemmas.Bool.{cases_lt}

@@ -1,4 +1,4 @@
--- Text that is written to a slice chunk by chunk.
+-- Text that is written to a slice chunk by chunk, for `put_chunks`.
 use Rattle.std.proofs.Common.{◌≡◌, ℕ, ◌≤◌, List, [], ◌++◌, refl, sym, ap, ◌∙◌, length, take, drop}
 use Rattle.std.proofs.lemmas.List.{take-append-drop, length-take-le}
 use Rattle.cesu8_text.specs.Text.{utf8}

@@ -1,7 +1,8 @@
 -- A block of 32 bytes is valid if each byte can follow the four bytes before it (`follows` in
 -- specs/Following). This module proves that the error mask that the code computes by table look-ups
 -- marks the bytes that cannot, and that the prefix that the blocks accept is that of the whole
--- input. A lane is "marked" if it is at least 80 (hexadecimal).
+-- input. `lanes/following.rt` computes the mask and `prefix.rt` the prefix; the proofs of their
+-- functions cite these lemmas. A lane is "marked" if it is at least 80 (hexadecimal).
 use Rattle.std.proofs.Common.{◌≡◌, ℕ, ◌+◌, ◌<◌, ◌≤◌, ◌||◌, ⊎_elim, Bool, true, false, cond, List, [], ◌∷◌, map, length, get_or, replicate, eqb, leb, ltb, bit_or, refl, sym, ap, ◌∙◌, subst, arith, drop, ◌-◌, ◌++◌, not, add-zero, take}
 use Rattle.std.specs.List.{range_with_len, prefix_len}
 use Rattle.std.proofs.lemmas.Bool.{agree_below_at, leb-false, ltb-true, not-false, not-true, or_parts, cases_lt}
@@ -82,6 +83,7 @@ required_by_needed Unchanged window at block is long_four long_three =
     (long_three ∙ sym (length-chunk (at + 1) 32 window (omega (arith, is.room))))
 
 -- The vectors of a block give the error mask: the bytes that cannot follow the bytes before them.
+-- `here` has the class of each pair of bytes, and `want` the class that it is required to have.
 pub error_mask_is : (s : CharacterSet) (f : Flavor) (window : List ℕ) (at : ℕ) (block : Block) → IsBlockAt s window at block →
     length block.four_before ≡ 32 → length block.three_before ≡ 32 → (here want : List ℕ) → here ≡ zip2 (pair_class s f) block.one_before block.bytes →
     want ≡ zip2 (λ want d. want d) (zip2 (required_class s) block.four_before block.three_before) block.two_before →
@@ -200,7 +202,8 @@ pub follows_agrees : (s : CharacterSet) (f : Flavor) (a b : List ℕ) (i j : ℕ
     follows_at s f a i ≡ follows_at s f b j
 follows_agrees s f a b i j agree = grind (arith, nat_tests, add-zero)
 
--- Byte i is byte i + 4 after the four zeros.
+-- Four zeros (`after_fillers`) precede the input, so that its first bytes have four bytes before
+-- them too. Byte i of the input is byte i + 4 after these zeros.
 pub after_the_fillers : (bytes : List ℕ) (i : ℕ) → get_or (after_fillers bytes) (i + 4) 0 ≡ get_or bytes i 0
 after_the_fillers bytes i = grind (arith, nat_tests)
 

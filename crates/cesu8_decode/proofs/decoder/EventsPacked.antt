@@ -1,4 +1,4 @@
--- What shuffles pack for a window, byte by byte.
+-- What shuffles pack for a window, byte by byte, for `write_nulls` and `write_replaced`.
 use Rattle.std.proofs.Common.{◌≡◌, ◌≢◌, ℕ, zero, suc, ◌+◌, ◌-◌, ◌*◌, ◌/◌, ◌%◌, ◌^◌, ◌<◌, ◌≤◌, ⊎_elim, Bool, false, true≢false, cond, eqb, List, [], ◌∷◌, ◌++◌, refl, sym, ap, ◌∙◌, subst, arith, length, take, get_or, append-nil, map, replicate, length-append, append_assoc, add-zero, zero-add, suc-add}
 use Rattle.std.specs.Int.{bit_at}
 use Rattle.std.specs.List.{flat_map, range_with_len}

@@ -1,4 +1,4 @@
--- The pass from window to window.
+-- The pass from window to window, for the loops of `pass::windows` and for one window alone.
 use Rattle.std.proofs.Common.{◌≡◌, ℕ, ◌+◌, ◌≤◌, Bool, true, false, true≢false, List, [], ◌++◌, refl, sym, ap, ◌∙◌, subst, arith, get_or, length, take, drop, append-nil, append_assoc, length-append, length-drop, take-append-drop, Result, Ok, Err, OkIff}
 use Rattle.std.proofs.lemmas.List.{length-take-le}
 use Rattle.cesu8_text.specs.Encoding.{Flavor, encoding}

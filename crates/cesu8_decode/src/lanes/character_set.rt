@@ -28,26 +28,19 @@ pub struct Rule {
 
 /// A lead byte is not followed by a continuation byte.
 const TOO_SHORT: u8 = 0x01;
-
 /// ASCII is followed by a continuation byte.
 const TOO_LONG: u8 = 0x02;
-
 /// E0 is followed by 80 to 9F (hexadecimal).
 const OVERLONG_3: u8 = 0x04;
-
 /// C1 is followed by a continuation byte.
 const OVERLONG_C1: u8 = 0x08;
-
 /// C0 is followed by a continuation byte. `following` clears this bit for C0 80 if the set has it.
 pub const OVERLONG_C0: u8 = 0x10;
-
 /// ED is followed by the second byte of a low surrogate, or of any surrogate if the set has no
 /// pairs. A set without pairs never requires this bit.
 pub const SURROGATE: u8 = 0x20;
-
 /// F0 or more is followed by any byte.
 const TOO_LARGE: u8 = 0x40;
-
 /// A continuation byte follows another one: it is the third byte of a character.
 pub const TWO_CONTS: u8 = 0x80;
 

@@ -6,15 +6,7 @@
 ghost use Rattle.std.specs.Prelude.{◌≡◌, ◌≤◌, ◌+◌, ◌&&◌, ◌||◌, ◌==◌, nat_le, nat_lt, slice_index};
 ghost use Rattle.cesu8_text.specs.Class.{is_null};
 ghost use Rattle.cesu8_decode.specs.DecodedOffsets.{continues};
-ghost use Rattle.cesu8_decode.specs.Masks.{
-  AreMasks,
-  HasBits,
-  has_bit_below,
-  is_long_lead_at,
-  is_null_at,
-  is_six_at,
-  is_three_at,
-};
+ghost use Rattle.cesu8_decode.specs.Masks.{AreMasks, HasBits, has_bit_below, is_long_lead_at, is_null_at, is_six_at, is_three_at};
 
 use cesu8_bytes::flavor::Flavor;
 use cesu8_bytes::lanes::class::{AtLeast, Either, Equal, LANES, NonAscii, Null, bits};

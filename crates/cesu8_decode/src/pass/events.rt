@@ -30,13 +30,11 @@ pub const STORED_AFTER: usize = LANES;
 
 /// The length of C0 80.
 const NULL: usize = 2;
-
 /// The length of its character in UTF-8.
 const NULL_UTF8: usize = 1;
 
 /// How many replacement characters one store writes.
 const AT_ONCE: usize = 10;
-
 /// The replacement character ten times, and the first two bytes of it.
 const REPLACEMENTS: [u8; 32] = [
     0xEF, 0xBF, 0xBD, 0xEF, 0xBF, 0xBD, 0xEF, 0xBF, 0xBD, 0xEF, 0xBF, 0xBD, 0xEF, 0xBF, 0xBD, 0xEF,
@@ -45,7 +43,6 @@ const REPLACEMENTS: [u8; 32] = [
 
 /// If a window has at least this many C0 80, and no other event, shuffles pack it.
 const MANY_NULLS: u32 = 4;
-
 /// If a window has at least this many runs of ill-formed bytes, and no other event, shuffles pack
 /// it. Fewer runs are faster by stores of the replacement character.
 const MANY_RUNS: u32 = 5;

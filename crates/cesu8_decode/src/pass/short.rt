@@ -30,21 +30,21 @@ pub const SHORT_LOSSY: usize = WIDEST * LANES + STORED_AFTER;
 const SOURCE: usize = LANES + LANES;
 
 /// Writes the decoded text of at most 64 bytes and returns its length, or returns an error if
-/// decoding is strict and a byte is ill-formed. `front` is their unchanged prefix.
+/// decoding is strict and a byte is ill-formed. `prefix` is their unchanged prefix.
 #[inline(always)]
 #[tactic(auto, using(crate::proofs::decoder::Passes::reads_text))]
 pub fn write_short<F: Flavor, S: Reading>(
     bytes: &[u8],
-    front: UnchangedPrefix,
+    prefix: UnchangedPrefix,
     out: &mut [u8],
 ) -> Result<usize, S::Error>
     requires short { length bytes.now ≤ LANES }
-    requires front { IsProperPrefix F.flavor bytes.now front }
+    requires prefix { IsProperPrefix F.flavor bytes.now prefix }
     requires room { room_for_short S.which ≤ length out.old }
     ensures { WritesReading F.flavor S.which bytes.now result out.old out.new }
 {
-    if front.changed != 0 {
-        let end = write_well_formed::<F>(bytes, front.changed, out);
+    if prefix.changed != 0 {
+        let end = write_well_formed::<F>(bytes, prefix.changed, out);
         return S::unless_rejected(false, end);
     }
     match S::strictness() {

@@ -17,7 +17,7 @@ macro_rules! rows {
     };
 }
 
-/// Row `gone` drops byte `i` if bit `i` of `gone` is set. Its last number is the count of bytes
+/// Row `dropped` drops byte `i` if bit `i` of `dropped` is set. Its last number is the count of bytes
 /// that are kept. The zeros between are part of the contract, and what they select is overwritten.
 const ROWS: Rows = rows!([] []; 0 1 2 3 4 5 6 7);
 

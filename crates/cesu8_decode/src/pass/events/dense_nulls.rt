@@ -43,7 +43,6 @@ pub fn write_nulls<F: Flavor>(
     end - (written - window.len)
 }
 
-/// Returns the bytes, with 00 in place of C0.
 #[inline(always)]
 fn zeroed(bytes: u8x32) -> u8x32
     ensures { result ≡ map (λ b. if b == 0xC0 then 0 else b) bytes }

@@ -112,7 +112,7 @@ fn store_four(lanes: u8x16, ill_formed: usize, out: &mut [u8], at: usize) -> usi
     at + row[15] as usize
 }
 
-/// Returns a reference to the rows.
+/// Returns a reference to the rows: indexing the constant would copy it to the stack.
 #[tactic(auto, using(crate::proofs::decoder::EventsRows::rows_are))]
 fn rows() -> &'static [[u8; 16]; 16]
     ensures { AreShufflesOfReplaced result.now }

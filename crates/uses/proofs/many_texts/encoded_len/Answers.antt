@@ -1,5 +1,6 @@
--- The encoding of the joined texts is their encodings in a row (`encoding-joined`). If a sum of the
--- first lengths is too large, so is the sum of all.
+-- `encoded_len` adds up the lengths of the texts' encodings. The encoding of the joined texts is
+-- these encodings in a row (`encoding-joined`), so the sum is its length. If the sum of the first
+-- lengths does not fit `usize`, nor does the sum of all.
 use Rattle.std.proofs.Common.{arith}
 use Rattle.std.proofs.lemmas.Grind.{common_steps}
 use Rattle.std.proofs.lemmas.List.Folds.{length-flat_map-take}

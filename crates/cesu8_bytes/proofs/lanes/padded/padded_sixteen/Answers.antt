@@ -1,5 +1,6 @@
--- For each length below 16, the row of the table selects the bytes in order, and then zeros. Each
--- length is a case, which is true by computation.
+-- `ends` puts the first bytes and the last ones in a vector, in which the middle may be twice. For
+-- each length below 16, the row of the table selects every byte once, in order, and then zeros.
+-- Each length is a case, which is true by computation.
 use Rattle.std.proofs.Common.{◌≡◌, ℕ, ◌-◌, ◌<◌, List, [], ◌∷◌, ◌++◌, length, get_or, replicate, refl, arith, w8}
 use Rattle.std.proofs.lemmas.Simd.{swz_l}
 use Rattle.cesu8_bytes.specs.Padded.{ends_of}

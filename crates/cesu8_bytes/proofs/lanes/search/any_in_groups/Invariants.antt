@@ -1,4 +1,5 @@
--- No group that was tested has a byte of the class.
+-- The loop returns at the first group (four chunks of 64 bytes) that has a byte of the class. So no
+-- group that was tested has one.
 use Rattle.std.specs.List.{Any}
 use Rattle.cesu8_bytes.specs.Kernels.{AnyIn}
 use Rattle.cesu8_bytes.proofs.lists.Walks.{NoneBefore}

@@ -1,4 +1,5 @@
--- Each round appends one zero more.
+-- The loop of `append_zeros`. Each round appends one more zero to capacity that is already there,
+-- so the capacity is unchanged.
 use Rattle.std.proofs.Common.{◌≡◌, ℕ, ◌+◌, ◌∙◌, List, ◌++◌, ◌∷◌, [], ap, arith, replicate, append_assoc}
 use Rattle.std.proofs.lemmas.List.{replicate_more}
 use Rattle.cesu8_bytes.proofs.writing.copies.append_zeros.Goals as goal

@@ -6,9 +6,9 @@ use Rattle.cesu8_bytes.proofs.writing.packing.store_eight.Goals as goal
 
 pub returns-clause-kept : goal.returns-clause-kept
 returns-clause-kept c =
-    row_written 8 c.args.gone 0 8 _ (c.rows_of_eight.ensures c.args.gone c.requires.small) (at_most_eight c.args.gone c.requires.small) (omega arith)
+    row_written 8 c.args.dropped 0 8 _ (c.rows_of_eight.ensures c.args.dropped c.requires.small) (at_most_eight c.args.dropped c.requires.small) (omega arith)
     c.args.lanes c.args.out.now _ c.args.at c.requires.room c.picked-packed.ensures
 
 pub returns-clause-few : goal.returns-clause-few
 returns-clause-few c =
-    omega (arith, end_of_row 8 c.args.gone 0 8 _ (c.rows_of_eight.ensures c.args.gone c.requires.small) (at_most_eight c.args.gone c.requires.small) (omega arith))
+    omega (arith, end_of_row 8 c.args.dropped 0 8 _ (c.rows_of_eight.ensures c.args.dropped c.requires.small) (at_most_eight c.args.dropped c.requires.small) (omega arith))

@@ -14,7 +14,7 @@ returns c tests long is =
     let eight = λ (a : ℕ) (le : a + 8 ≤ 32). lanes_of_first bytes bytes a 8 (omega arith) in
     let half = λ (a : ℕ). pick_l 0 (bytes ++ bytes) (range_with_len a 16) in
     subst (λ bs. WritesAt bs c.args.at c.args.out.now c.store_eight.new.out c.store_eight.result)
-    (kept_of_four tests bytes long c.fits-bytes.0 (half 0) _ (half 16) _ c.args.gone is
+    (kept_of_four tests bytes long c.fits-bytes.0 (half 0) _ (half 16) _ c.args.dropped is
     (eight 0 (omega arith)) (ap (chunk 0 8) c.second_of.ensures ∙ eight 8 (omega arith))
     (eight 16 (omega arith)) (ap (chunk 0 8) c.second_of-2.ensures ∙ eight 24 (omega arith)))
     (written_by_four _ _ _ _ _ _ _ _ _ _ _ _ _ _

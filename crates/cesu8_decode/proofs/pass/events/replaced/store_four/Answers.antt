@@ -1,4 +1,5 @@
--- A row of the table packs the four bytes as its number says, which is at most twelve bytes.
+-- `store_four` packs four bytes by the row of the table whose number has a bit for each ill-formed
+-- one. The row puts U+FFFD, three bytes, in place of these, so it writes at most twelve bytes.
 use Rattle.std.proofs.Common.{arith, get_or, []}
 use Rattle.cesu8_decode.proofs.decoder.EventsRows.{end_of_four, four_written}
 use Rattle.cesu8_decode.proofs.pass.events.replaced.store_four.Goals as goal
