@@ -1,5 +1,5 @@
 -- Lists that are cut into chunks of one length, and what is left over.
-use Rattle.std.proofs.Common.{◌≡◌, ℕ, Bool, true, false, IsTrue, ◌+◌, ◌*◌, ◌/◌, ◌↔◌, ◌⊎◌, List, [], ◌∷◌, length, take, drop, refl, sym, ap, ◌∙◌, subst, zero, suc, inl, inr, ⊎_elim, arith}
+use Rattle.std.proofs.Common.{◌≡◌, ℕ, Bool, true, false, IsTrue, ◌+◌, ◌*◌, ◌/◌, ◌↔◌, ◌⊎◌, List, [], ◌∷◌, ◌++◌, length, take, drop, refl, sym, ap, ◌∙◌, subst, zero, suc, inl, inr, ⊎_elim, arith}
 use Rattle.std.specs.List.{Any}
 use Rattle.std.specs.Simd.{first_chunks}
 use Rattle.std.proofs.lemmas.Bool.{iff_false, false≢true}
@@ -24,8 +24,10 @@ cut P n (suc k) m xs e =
           (λ q. ⊎_elim (λ r. inl (any_there (Any P) (take n xs) chunks r)) (λ r. inr (subst (Any P) left r)) (rest.0 q))
           (any_append P (take n xs) (drop n xs) (subst (Any P) (sym whole) p))),
       (λ s. let front = any_left P (take n xs) (drop n xs) in
-          let back = any_right P (take n xs) (drop n xs) in
-          grind (arith, front, back, any_cons (Any P) (take n xs) chunks, rest.1, left, whole)),
+          let back : Any (Any P) chunks ⊎ Any P (drop (k * n) (drop n xs)) → Any P (take n xs ++ drop n xs) =
+          λ r. any_right P (take n xs) (drop n xs) (rest.1 r) in
+          subst (Any P) whole
+          (⊎_elim (λ q. ⊎_elim front (λ r. back (inl r)) (any_cons (Any P) (take n xs) chunks q)) (λ r. back (inr (subst (Any P) (sym left) r))) s)),
     )
 
 -- P holds of an element of a list if and only if it holds of one in a chunk or in the rest.
@@ -54,7 +56,8 @@ nothing_left P rest none = ((λ t. absurd (false≢true t)), (λ h. absurd (omeg
 -- P holds of one of four elements if and only if it holds of one of two pairs of them.
 pub group_elements : {X : Type 0} (P : X → Type 0) (a b c d : X) → Any P (a ∷ b ∷ c ∷ d ∷ []) ↔ ((P a ⊎ P b) ⊎ (P c ⊎ P d))
 group_elements P a b c d = (
-  (λ h. grind (arith, any_cons, any_nil)),
+  (λ h. ⊎_elim (λ p. inl (inl p)) (λ h. ⊎_elim (λ p. inl (inr p)) (λ h. ⊎_elim (λ p. inr (inl p)) (λ h. ⊎_elim (λ p. inr (inr p))
+      (λ h. absurd (any_nil P h)) (any_cons P d [] h)) (any_cons P c (d ∷ []) h)) (any_cons P b (c ∷ d ∷ []) h)) (any_cons P a (b ∷ c ∷ d ∷ []) h)),
   (λ s. ⊎_elim (λ s. ⊎_elim (λ p. (0, a, omega arith, refl, p)) (λ p. (1, b, omega arith, refl, p)) s)
       (λ s. ⊎_elim (λ p. (2, c, omega arith, refl, p)) (λ p. (3, d, omega arith, refl, p)) s) s),
 )

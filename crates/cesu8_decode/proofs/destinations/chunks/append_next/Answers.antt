@@ -1,8 +1,10 @@
 -- The pass writes over the appended zeros, and the truncation removes those after the text, so the
 -- vector keeps its bytes and gains what the pass wrote.
-use Rattle.std.proofs.Common.{◌≡◌, ◌≤◌, ◌∙◌, ℕ, ◌+◌, List, ◌++◌, sym, ap, arith, length, take, replicate, length-append}
+use Rattle.std.specs.Prelude.{vec_len, vec_capacity}
+use Rattle.std.proofs.Common.{◌≡◌, ◌≤◌, ◌∙◌, ℕ, ◌+◌, List, ◌++◌, true≢false, refl, sym, ap, subst, arith, length, take, replicate, length-append}
+use Rattle.std.proofs.lemmas.Bool.{not-false, not-true}
 use Rattle.std.proofs.Math.Seq.{take-append-add, take-append_seam}
-use Rattle.std.proofs.lemmas.List.{take-append-le, take-take}
+use Rattle.std.proofs.lemmas.List.{length-take-le, take-append-le, take-take}
 use Rattle.cesu8_decode.proofs.destinations.chunks.append_next.Goals as goal
 
 -- What is written after a prefix is unchanged by a truncation at its end.
@@ -36,3 +38,32 @@ returns-clause-next g c =
           ∙ ap (λ bs. bs ++ chunk) prefix;
       capacity = c.truncate.ensures.capacity ∙ c.append_zeros.ensures.capacity;
     }
+
+-- If the pass writes to an array first, what it wrote there is appended, or nothing is.
+pub slice_bounds-written-end : goal.slice_bounds-written-end
+slice_bounds-written-end g c = c.write_windows-pass.ensures.more.inside
+
+pub append-requires : goal.append-requires
+append-requires g c =
+    let pass = c.write_windows-pass in
+    let more = pass.ensures.more in
+    subst (λ n. vec_len c.args.out.now + n ≤ vec_capacity c.args.out.now) (sym (length-take-le pass.result.end pass.new.out more.inside))
+    (c.requires.fits pass.result _ pass.new.out (not-true _ c.if-not-pass.true) more)
+
+pub returns-then-not-pass-clause-next : goal.returns-then-not-pass-clause-next
+returns-then-not-pass-clause-next g c = record {
+  old = _;
+  new = c.write_windows-pass.new.out;
+  more = c.write_windows-pass.ensures.more;
+  text = λ fine. c.append.ensures.bytes;
+  capacity = c.append.ensures.capacity;
+}
+
+pub returns-else-not-pass-clause-next : goal.returns-else-not-pass-clause-next
+returns-else-not-pass-clause-next g c = record {
+  old = _;
+  new = c.write_windows-pass.new.out;
+  more = c.write_windows-pass.ensures.more;
+  text = λ fine. absurd (true≢false (sym (not-false _ c.if-not-pass.false) ∙ fine));
+  capacity = refl;
+}

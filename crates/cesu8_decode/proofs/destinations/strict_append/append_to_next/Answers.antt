@@ -1,6 +1,6 @@
 -- The unchanged prefix is its own text. If no character that needs conversion follows it, there is
 -- no strict reading; if one does, its UTF-8 follows from the first eight bytes after the prefix.
-use Rattle.std.proofs.Common.{drop}
+use Rattle.std.proofs.Common.{◌∙◌, ℕ, ◌<◌, List, arith, length, drop, length-drop}
 use Rattle.std.proofs.lemmas.Bool.{both_ways}
 use Rattle.std.proofs.lemmas.List.{take_rest}
 use Rattle.cesu8_bytes.specs.declared.strictness.Strictness.TheVariants.{Strict}
@@ -45,3 +45,19 @@ returns-clause-read g c =
     rw (take_rest, take_rest) (more_read f Strict bytes rest _ _ _ _
     (prefix_appended f bytes c.args.len c.requires.prefix.0 bytes before before c.append_prefix.new.out.items (nothing_read f Strict bytes before) c.append_prefix.ensures.bytes)
     (seen_pair_read f rest first same Strict _ _ pair c.utf8_of_pair.result c.utf8_of_pair.ensures c.append-2.ensures.bytes))
+
+-- If the prefix is not all bytes, fewer bytes are left after the next character.
+fewer_left : (k n : ℕ) (bytes : List ℕ) → n < length bytes → 0 < k → length (drop k (drop n bytes)) < length bytes
+fewer_left k n bytes inside some = omega (arith, length-drop k (drop n bytes), length-drop n bytes)
+
+pub returns-then-first-clause-within : goal.returns-then-first-clause-within
+returns-then-first-clause-within g c = simp take_rest (fewer_left 2 c.args.len c.args.bytes.now c.requires.prefix.1 (omega arith))
+
+pub returns-clause-within : goal.returns-clause-within
+returns-clause-within g c = simp take_rest (fewer_left 6 c.args.len c.args.bytes.now c.requires.prefix.1 (omega arith))
+
+pub returns-then-first-clause-capacity : goal.returns-then-first-clause-capacity
+returns-then-first-clause-capacity g c = c.append.ensures.capacity ∙ c.append_prefix.ensures.capacity
+
+pub returns-clause-capacity : goal.returns-clause-capacity
+returns-clause-capacity g c = c.append-2.ensures.capacity ∙ c.append_prefix.ensures.capacity
