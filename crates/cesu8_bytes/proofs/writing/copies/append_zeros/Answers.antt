@@ -1,15 +1,9 @@
-<<<<<<< HEAD
 -- The loop of `append_zeros`. Each round appends one more zero to capacity that is already there,
 -- so the capacity is unchanged.
-use Rattle.std.proofs.Common.{◌≡◌, ℕ, ◌+◌, ◌∙◌, List, ◌++◌, ◌∷◌, [], ap, arith, replicate, append_assoc}
-use Rattle.std.proofs.lemmas.List.{replicate_more}
-=======
--- Each round appends one zero more.
 use Rattle.std.specs.Prelude.{Vec, vec_len, vec_capacity}
 use Rattle.std.proofs.Common.{◌≡◌, ℕ, ◌+◌, ◌<◌, ◌≤◌, ◌∙◌, List, ◌++◌, ◌∷◌, [], sym, ap, arith, replicate, append_assoc}
 use Rattle.cesu8_bytes.specs.Puts.{Appends}
 use Rattle.std.proofs.lemmas.List.{length-replicate, replicate_more}
->>>>>>> time
 use Rattle.cesu8_bytes.proofs.writing.copies.append_zeros.Goals as goal
 
 -- After n zeros and one more there are n + 1 zeros.
