@@ -11,6 +11,7 @@ ghost use Rattle.cesu8_decode.specs.Masks.{IsWindow};
 pub use super::masks::STEP;
 use super::masks::masks_of;
 use super::padded::padded;
+use crate::strategy::is_one_block;
 use cesu8_bytes::BLOCK;
 use cesu8_bytes::flavor::Flavor;
 use cesu8_bytes::lanes::class::LANES;
@@ -52,7 +53,7 @@ pub fn window_of_short<F: Flavor>(bytes: &[u8]) -> Window
     ensures window { (is : IsWindow F.flavor bytes.now 0 result) × (is.n ≡ length bytes.now) }
     ensures len { result.len ≡ length bytes.now }
 {
-    if bytes.len() <= BLOCK {
+    if is_one_block(bytes) {
         return window_of_lanes::<F, BLOCK>(padded_half(bytes), bytes.len());
     }
     window_of_lanes::<F, LANES>(padded(bytes), bytes.len())

@@ -8,8 +8,8 @@ use Rattle.cesu8_decode.proofs.lanes.windows.window_of_short.Goals as goal
 lanes_alike : (bytes lanes : List ℕ) (m n : ℕ) → lanes ≡ bytes ++ replicate m 0 → (i : ℕ) → i < n → get_or lanes i 0 ≡ get_or bytes (0 + i) 0
 lanes_alike bytes lanes m n is i small = alike_with_zeros bytes lanes m is i ∙ ap (λ k. get_or bytes k 0) (sym (zero-add i))
 
-pub returns-then-bytes-le-BLOCK : goal.returns-then-bytes-le-BLOCK
-returns-then-bytes-le-BLOCK g c =
+pub returns-then-is_one_block : goal.returns-then-is_one_block
+returns-then-is_one_block g c =
     let f = g.F.Flavor.flavor in
     let bytes = c.args.bytes.now in
     let window = c.window_of_lanes.ensures bytes 0 (lanes_alike bytes _ _ _ c.padded_half.ensures) (boundary_of_zeros f bytes) in
