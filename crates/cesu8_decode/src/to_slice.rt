@@ -6,7 +6,8 @@ ghost use Rattle.cesu8_decode.specs.PutReadings.{PutsText, ReadsAs};
 
 use crate::destinations::slices::{put_lossily, put_strictly};
 use crate::error::WriteError;
-use crate::modes::{Accepts, Mode, prefix_of_other};
+use crate::modes::{Accepts, Mode, prefix_in_mode};
+use crate::prefix::unchanged_prefix;
 use cesu8_bytes::flavor::Flavor;
 use cesu8_bytes::strictness::{Reading, Strictness};
 use cesu8_bytes::writing::copies::copy_to_slice;
@@ -40,7 +41,7 @@ fn decode_other_to_slice<F: Flavor>(
     ensures { PutsText strictness (ReadsAs strictness (Reads mode F.flavor bytes.now)
         (ReadsLossily mode F.flavor bytes.now)) result buf.old buf.new }
 {
-    let prefix = prefix_of_other::<F>(bytes, mode);
+    let prefix = prefix_in_mode::<F>(bytes, unchanged_prefix::<F>(bytes), mode);
     if prefix.len == bytes.len() {
         return copy_to_slice(bytes, buf).map_err(WriteError::NoRoom);
     }
