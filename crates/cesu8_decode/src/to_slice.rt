@@ -26,19 +26,19 @@ pub fn decode_to_slice<F: Flavor, A: Accepts, S: Reading>(
     if A::is_short_kept::<F>(bytes) {
         return copy_to_slice(bytes, buf).map_err(WriteError::NoRoom);
     }
-    decode_other_to_slice::<F>(bytes, buf, A::mode(), S::strictness())
+    decode_other_to_slice::<F, S>(bytes, buf, A::mode())
 }
 
 /// Like `decode_to_slice`, without the fast path. It is not inlined, so that short ASCII has few
-/// registers to save.
+/// registers to save. The strictness is a type: as a value it would join the paths of both results,
+/// and a short input that is rejected would take a third longer.
 #[inline(never)]
-fn decode_other_to_slice<F: Flavor>(
+fn decode_other_to_slice<F: Flavor, S: Reading>(
     bytes: &[u8],
     buf: &mut [u8],
     mode: Mode,
-    strictness: Strictness,
 ) -> Result<usize, WriteError>
-    ensures { PutsText strictness (ReadsAs strictness (Reads mode F.flavor bytes.now)
+    ensures { PutsText S.which (ReadsAs S.which (Reads mode F.flavor bytes.now)
         (ReadsLossily mode F.flavor bytes.now)) result buf.old buf.new }
 {
     let prefix = prefix_in_mode::<F>(bytes, unchanged_prefix::<F>(bytes), mode);
@@ -46,7 +46,7 @@ fn decode_other_to_slice<F: Flavor>(
         return copy_to_slice(bytes, buf).map_err(WriteError::NoRoom);
     }
     // `Ok` and `?` copy a result field by field: a copy of the whole would wait for the stores.
-    match strictness {
+    match S::strictness() {
         Strictness::Strict => Ok(put_strictly::<F>(bytes, prefix, buf)?),
         Strictness::Lossy => Ok(put_lossily::<F>(bytes, prefix, buf)?),
     }
