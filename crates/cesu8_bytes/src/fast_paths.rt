@@ -26,7 +26,7 @@ use crate::lanes::class::{AtLeastF0, Either, FourByteLead, InAllVectors, LANES, 
 use crate::lanes::groups::InGroups;
 use crate::lanes::runs::lanes_before;
 use crate::lanes::search::{any_in_bytes, any_in_each, any_in_long};
-use crate::lanes::short::{are_short, end_vector};
+use crate::lanes::short::{any_in_ends, are_short, end_vector};
 use std::simd::prelude::*;
 
 /// The largest input that is checked inline for unchanged ASCII. From this length on,
@@ -66,8 +66,13 @@ pub fn is_short_unchanged_ascii<F: Flavor>(bytes: &[u8]) -> bool
 fn any_in_vectors<C: InAllVectors + InGroups>(bytes: &[u8]) -> bool
     ensures { IsTrue result ↔ AnyIn C.class bytes.now }
 {
-    if bytes.len() <= 2 * LANES {
+    // The tests of the length have the order of those in `copy_short`, so that the compiler joins
+    // them if a copy follows.
+    if are_short(bytes) {
         return any_in_bytes::<C>(bytes);
+    }
+    if bytes.len() <= 2 * LANES {
+        return any_in_ends::<C, LANES>(bytes);
     }
     let (chunks, _) = bytes.as_chunks::<LANES>();
     let end = end_vector::<LANES>(bytes);
