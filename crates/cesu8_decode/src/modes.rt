@@ -1,8 +1,9 @@
 //! The modes of decoding: `Lenient` returns input unchanged if it is UTF-8, and `EncodingAlone` only
 //! if it is UTF-8 in which nothing needs conversion.
 //!
-//! A public call has the mode as a type, so that its fast path is compiled for that mode. What a
-//! fast path calls gets the mode as a value, so that one function serves both modes.
+//! A public call has the mode as a type, so that its fast path is compiled for that mode. What is
+//! called after a fast path does not depend on the mode, or gets it as a value, so that one function
+//! serves both modes.
 //!
 //! `prefix_unless_kept` decides whether a call returns its input unchanged. If not, it returns the
 //! unchanged prefix, with which decoding begins.
@@ -13,7 +14,7 @@ ghost use Rattle.cesu8_decode.specs.Prefixes.{IsProperPrefix, IsPrefixUnlessKept
 ghost use Rattle.cesu8_decode.specs.declared.modes.Mode.{Mode as AnyMode};
 ghost use Rattle.cesu8_decode.specs.declared.modes.Mode.TheVariants.{EncodingAlone as TheEncodingAlone, Lenient as AnyUtf8};
 
-use crate::prefix::{UnchangedPrefix, unchanged_prefix};
+use crate::prefix::{UnchangedPrefix, unchanged_prefix_by_call};
 use crate::utf8::is_utf8_by_parts;
 use cesu8_bytes::fast_paths::{is_short_ascii, is_short_unchanged_ascii};
 use cesu8_bytes::flavor::{Cesu8Flavor, Flavor};
@@ -89,29 +90,24 @@ pub fn prefix_unless_kept<F: Flavor, A: Accepts>(bytes: &[u8]) -> Option<Unchang
     if A::is_short_kept::<F>(bytes) {
         return None;
     }
-    let prefix = prefix_by_call::<F>(bytes, A::mode());
+    let prefix = prefix_in_mode::<F>(bytes, unchanged_prefix_by_call::<F>(bytes), A::mode());
     if prefix.len == bytes.len() {
         return None;
     }
     Some(prefix)
 }
 
-/// Calls `prefix_of_other`. It is not inlined, so that the fast path of its caller stays small, and
-/// returns two words, which fit in registers. Decoding to a slice does not need it, since a call
-/// follows its fast path anyway.
-#[inline(never)]
-fn prefix_by_call<F: Flavor>(bytes: &[u8], mode: Mode) -> UnchangedPrefix
-    ensures { IsPrefixUnlessKept F.flavor (Keeps mode F.flavor bytes.now) bytes.now result }
-{
-    prefix_of_other::<F>(bytes, mode)
-}
-
-/// Returns the unchanged prefix, or the whole input if the mode returns it unchanged.
+/// Returns the whole input if the mode returns it unchanged, and otherwise `prefix`, its unchanged
+/// prefix.
 #[inline(always)]
-pub fn prefix_of_other<F: Flavor>(bytes: &[u8], mode: Mode) -> UnchangedPrefix
+pub fn prefix_in_mode<F: Flavor>(
+    bytes: &[u8],
+    prefix: UnchangedPrefix,
+    mode: Mode,
+) -> UnchangedPrefix
+    requires { IsUnchangedPrefix F.flavor bytes.now prefix }
     ensures { IsPrefixUnlessKept F.flavor (Keeps mode F.flavor bytes.now) bytes.now result }
 {
-    let prefix = unchanged_prefix::<F>(bytes);
     match mode {
         Mode::Lenient => lenient_prefix::<F>(bytes, prefix),
         Mode::EncodingAlone => prefix,
@@ -158,5 +154,6 @@ pub fn is_utf8(bytes: &[u8]) -> bool
     ensures { IsTrue result ↔ IsUtf8 bytes.now }
 {
     // In CESU-8 all ASCII is unchanged, so no byte 00 ends the prefix.
-    prefix_by_call::<Cesu8Flavor>(bytes, Mode::Lenient).len == bytes.len()
+    let prefix = unchanged_prefix_by_call::<Cesu8Flavor>(bytes);
+    lenient_prefix::<Cesu8Flavor>(bytes, prefix).len == bytes.len()
 }

@@ -6,7 +6,8 @@ ghost use Rattle.cesu8_decode.specs.PutReadings.{PutsText, ReadsAs};
 
 use crate::destinations::slices::{put_lossily, put_strictly};
 use crate::error::WriteError;
-use crate::modes::{Accepts, Mode, prefix_of_other};
+use crate::modes::{Accepts, Mode, prefix_in_mode};
+use crate::prefix::unchanged_prefix;
 use cesu8_bytes::flavor::Flavor;
 use cesu8_bytes::strictness::{Reading, Strictness};
 use cesu8_bytes::writing::copies::copy_to_slice;
@@ -25,27 +26,27 @@ pub fn decode_to_slice<F: Flavor, A: Accepts, S: Reading>(
     if A::is_short_kept::<F>(bytes) {
         return copy_to_slice(bytes, buf).map_err(WriteError::NoRoom);
     }
-    decode_other_to_slice::<F>(bytes, buf, A::mode(), S::strictness())
+    decode_other_to_slice::<F, S>(bytes, buf, A::mode())
 }
 
 /// Like `decode_to_slice`, without the fast path. It is not inlined, so that short ASCII has few
-/// registers to save.
+/// registers to save. The strictness is a type: as a value it would join the paths of both results,
+/// and a short input that is rejected would take a third longer.
 #[inline(never)]
-fn decode_other_to_slice<F: Flavor>(
+fn decode_other_to_slice<F: Flavor, S: Reading>(
     bytes: &[u8],
     buf: &mut [u8],
     mode: Mode,
-    strictness: Strictness,
 ) -> Result<usize, WriteError>
-    ensures { PutsText strictness (ReadsAs strictness (Reads mode F.flavor bytes.now)
+    ensures { PutsText S.which (ReadsAs S.which (Reads mode F.flavor bytes.now)
         (ReadsLossily mode F.flavor bytes.now)) result buf.old buf.new }
 {
-    let prefix = prefix_of_other::<F>(bytes, mode);
+    let prefix = prefix_in_mode::<F>(bytes, unchanged_prefix::<F>(bytes), mode);
     if prefix.len == bytes.len() {
         return copy_to_slice(bytes, buf).map_err(WriteError::NoRoom);
     }
     // `Ok` and `?` copy a result field by field: a copy of the whole would wait for the stores.
-    match strictness {
+    match S::strictness() {
         Strictness::Strict => Ok(put_strictly::<F>(bytes, prefix, buf)?),
         Strictness::Lossy => Ok(put_lossily::<F>(bytes, prefix, buf)?),
     }

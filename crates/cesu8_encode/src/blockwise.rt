@@ -38,7 +38,7 @@ pub fn write<F: Flavor>(text: &str, more: usize, out: &mut [u8]) -> usize
 /// Like `write`, for a string of more than a block. Which strategy encodes the blocks depends on
 /// `more`, for speed only.
 #[inline(never)]
-fn write_blocks<F: Flavor>(text: &str, more: usize, out: &mut [u8]) -> usize
+pub fn write_blocks<F: Flavor>(text: &str, more: usize, out: &mut [u8]) -> usize
     requires long { BLOCK < length text.now }
     requires room { length (encoding F.flavor (chars text.now)) ≤ length out.old }
     ensures { WritesEncoding F.flavor text.now out.old out.new result }

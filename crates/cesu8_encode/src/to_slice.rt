@@ -6,7 +6,7 @@ ghost use Rattle.cesu8_text.specs.Encoding.{encoding};
 ghost use Rattle.cesu8_bytes.specs.Puts.{PutsAnswer};
 
 use crate::blocks::BLOCK_ENCODED;
-use crate::blockwise::write;
+use crate::blockwise::{write, write_blocks};
 use crate::strategy::is_block;
 use cesu8_bytes::BLOCK;
 use cesu8_bytes::fast_paths::{may_need_encoding, needs_encoded};
@@ -52,12 +52,13 @@ fn encode_block_to_slice<F: Flavor>(text: &str, buf: &mut [u8]) -> Result<usize,
 #[inline(never)]
 #[tactic(auto, using(crate::proofs::encoder::EncodedLengths::no_shorter))]
 fn encode_in_place<F: Flavor>(text: &str, buf: &mut [u8]) -> Result<usize, NoRoom>
+    requires { BLOCK < length text.now }
     ensures { PutsAnswer (encoding F.flavor (chars text.now)) result buf.old buf.new }
 {
     let len = encoded_len::<F>(text);
     if buf.len() < len {
         return Err(NoRoom { needed: len });
     }
-    write::<F>(text, len - text.len(), &mut buf[..len]);
+    write_blocks::<F>(text, len - text.len(), &mut buf[..len]);
     Ok(len)
 }

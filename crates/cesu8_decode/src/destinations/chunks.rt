@@ -2,6 +2,7 @@
 //! that is then copied, until it has read all bytes.
 
 ghost use Rattle.std.specs.Prelude.{◌≡◌, ℕ, List, ◌+◌, ◌<◌, ◌≤◌, false, length, vec_len, vec_capacity};
+ghost use Rattle.cesu8_bytes.specs.Puts.{Appends};
 ghost use Rattle.cesu8_decode.specs.declared.pass.windows.Pass.{Pass};
 ghost use Rattle.cesu8_text.specs.Reading.{reading, lossy_length};
 ghost use Rattle.cesu8_text.specs.Slices.{StandsAtFront};
@@ -62,7 +63,7 @@ fn append_next<F: Flavor>(
         let mut written = [0; SMALL_STRICT];
         let pass = write_windows::<F>(bytes, read, strictness, &mut written);
         if !pass.is_rejected {
-            append(&written[..pass.end], out);
+            append_by_call(&written[..pass.end], out);
         }
         return pass;
     }
@@ -70,6 +71,15 @@ fn append_next<F: Flavor>(
     let pass = write_windows::<F>(bytes, read, strictness, &mut out[start..]);
     out.truncate(start + pass.end);
     pass
+}
+
+/// Calls `append`, whose code for each length is long.
+#[inline(never)]
+pub fn append_by_call(bytes: &[u8], out: &mut Vec<u8>)
+    requires { vec_len out.old + length bytes.now ≤ vec_capacity out.old }
+    ensures { Appends bytes.now out.old out.new }
+{
+    append(bytes, out);
 }
 
 /// Writes the lossily decoded text at the start of a slice that is long enough, and returns its

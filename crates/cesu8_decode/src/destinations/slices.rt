@@ -8,6 +8,7 @@
 
 ghost use Rattle.std.specs.Prelude.{◌+◌, ◌≤◌, ◌<◌, length};
 ghost use Rattle.cesu8_text.specs.Reading.{reading};
+ghost use Rattle.cesu8_bytes.specs.Puts.{PutsAnswer};
 ghost use Rattle.cesu8_bytes.specs.declared.strictness.Strictness.TheVariants.{Strict, Lossy};
 ghost use Rattle.cesu8_decode.specs.Decoding.{room_for, room_for_short};
 ghost use Rattle.cesu8_decode.specs.Following.{Unchanged as AllUnchanged};
@@ -23,8 +24,7 @@ use crate::pass::short::{SHORT_LOSSY, SHORT_STRICT, write_short};
 use crate::pass::windows::{
     LARGE_LOSSY, LARGE_STRICT, LARGEST_LOSSY, SMALL_LOSSY, SMALL_STRICT, write_all,
 };
-use crate::prefix::window::prefix_by_window;
-use crate::prefix::{UnchangedPrefix, may_be_crossed};
+use crate::prefix::{UnchangedPrefix, may_be_crossed, unchanged_prefix_by_call};
 use crate::strategy::{Strategy, strategy_of};
 use crate::valid::is_ill_formed;
 use cesu8_bytes::flavor::Flavor;
@@ -129,9 +129,9 @@ fn put_rest<F: Flavor>(bytes: &[u8], buf: &mut [u8]) -> Result<usize, WriteError
     requires { length bytes.now ≤ LANES }
     ensures { PutsReading F.flavor Strict bytes.now result buf.old buf.new }
 {
-    let prefix = prefix_by_window::<F>(bytes);
+    let prefix = unchanged_prefix_by_call::<F>(bytes);
     if prefix.len == bytes.len() {
-        return copy_to_slice(bytes, buf).map_err(WriteError::NoRoom);
+        return copy_by_call(bytes, buf).map_err(WriteError::NoRoom);
     }
     put_short::<F, StrictReading, SHORT_STRICT>(bytes, prefix, buf)
 }
@@ -170,7 +170,16 @@ fn put_by_array<F: Flavor, S: Reading, const WRITTEN: usize>(
     let Ok(end) = write_all::<F, S>(bytes, &mut written) else {
         return Err(WriteError::NoText);
     };
-    copy_to_slice(&written[..end], buf).map_err(WriteError::NoRoom)
+    copy_by_call(&written[..end], buf).map_err(WriteError::NoRoom)
+}
+
+/// Calls `copy_to_slice`, whose code for each length is long. After more than 64 bytes were read, a
+/// call takes little beside the decoding.
+#[inline(never)]
+fn copy_by_call(bytes: &[u8], buf: &mut [u8]) -> Result<usize, NoRoom>
+    ensures { PutsAnswer bytes.now result buf.old buf.new }
+{
+    copy_to_slice(bytes, buf)
 }
 
 /// Writes the decoded text of more bytes by `put_chunks`. In strict decoding it first validates the

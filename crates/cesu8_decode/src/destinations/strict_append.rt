@@ -17,8 +17,7 @@ use super::chunks::append_chunks;
 use crate::lanes::character_set::Unchanged;
 use crate::needs_conversion::{changes, first_eight};
 use crate::pass::short::{SHORT_STRICT, write_short};
-use crate::prefix::window::prefix_by_window;
-use crate::prefix::{UnchangedPrefix, longest_prefix, may_be_crossed};
+use crate::prefix::{UnchangedPrefix, longest_prefix, may_be_crossed, unchanged_prefix_by_call};
 use cesu8_bytes::flavor::Flavor;
 use cesu8_bytes::lanes::class::LANES;
 use cesu8_bytes::lanes::short::are_short;
@@ -75,7 +74,7 @@ fn append_last<F: Flavor>(bytes: &[u8], before: Vec<u8>) -> Result<Vec<u8>, NoTe
     requires room { vec_len before + length bytes.now ≤ vec_capacity before }
     ensures { AppendsReading F.flavor Strict bytes.now before result }
 {
-    let prefix = prefix_by_window::<F>(bytes);
+    let prefix = unchanged_prefix_by_call::<F>(bytes);
     if prefix.len < bytes.len() {
         return append_short_strictly::<F>(bytes, prefix, before);
     }

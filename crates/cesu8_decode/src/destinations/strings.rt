@@ -12,7 +12,7 @@ ghost use Rattle.cesu8_decode.specs.Decoding.{BuildsReading, AppendsReading, roo
 ghost use Rattle.cesu8_decode.specs.Following.{Unchanged};
 ghost use Rattle.cesu8_decode.specs.Prefixes.{IsLongestPrefix, IsProperPrefix};
 
-use super::chunks::append_chunks;
+use super::chunks::{append_by_call, append_chunks};
 use super::strict_append::{append_many, append_short_strictly};
 use crate::lengths::lossy_len;
 use crate::needs_conversion::may_lead_changed;
@@ -25,7 +25,7 @@ use cesu8_bytes::flavor::Flavor;
 use cesu8_bytes::lanes::class::LANES;
 use cesu8_bytes::lanes::short::are_short;
 use cesu8_bytes::strictness::{LossyReading, NoText};
-use cesu8_bytes::writing::copies::{append, copy};
+use cesu8_bytes::writing::copies::copy;
 use std::alloc::{AllocError, Global};
 
 /// Writes the strictly decoded text to an empty vector, or returns an error if a byte is
@@ -133,7 +133,7 @@ fn build_chunks<F: Flavor>(alloc: Global, bytes: &[u8]) -> Result<Vec<u8>, Alloc
     let rest_len = lossy_len::<F>(rest).ok_or(AllocError)?;
     let len = end.checked_add(rest_len).ok_or(AllocError)?;
     let mut text = Vec::with_capacity(alloc, len)?;
-    append(&written[..end], &mut text);
+    append_by_call(&written[..end], &mut text);
     let Ok(text) = append_chunks::<F, LossyReading>(rest, text);
     Ok(text)
 }

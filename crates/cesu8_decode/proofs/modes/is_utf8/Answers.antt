@@ -5,5 +5,5 @@ use Rattle.cesu8_decode.proofs.modes.is_utf8.Goals as goal
 
 pub returns : goal.returns
 returns c =
-    let kept = c.prefix_by_call.ensures.kept in
+    let kept = c.lenient_prefix.ensures.kept in
     (λ all. kept.0 (eqb-true _ _ all), λ is_utf8. eq-eqb _ _ (kept.1 is_utf8))

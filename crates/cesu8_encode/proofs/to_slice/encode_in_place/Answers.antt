@@ -5,13 +5,13 @@ use Rattle.cesu8_encode.proofs.to_slice.encode_in_place.Goals as goal
 
 pub returns : goal.returns
 returns g c =
-    let whole : length c.write.new.out ≤ c.write.result =
-    omega (arith, ap length c.write.ensures.bytes, length-take {A = ℕ}) in
+    let whole : length c.write_blocks.new.out ≤ c.write_blocks.result =
+    omega (arith, ap length c.write_blocks.ensures.bytes, length-take {A = ℕ}) in
     record {
       written = (
         c.encoded_len-len.ensures,
         ap (λ bytes. bytes ++ drop c.encoded_len-len.result c.args.buf.now)
-            (sym (take_all c.write.result c.write.new.out whole) ∙ c.write.ensures.bytes),
+            (sym (take_all c.write_blocks.result c.write_blocks.new.out whole) ∙ c.write_blocks.ensures.bytes),
       );
       fits = search rules;
       needed = tt;

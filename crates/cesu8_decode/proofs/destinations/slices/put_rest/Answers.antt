@@ -10,6 +10,6 @@ pub returns-then-prefix-bytes : goal.returns-then-prefix-bytes
 returns-then-prefix-bytes g c =
     let f = g.F.Flavor.flavor in
     let bytes = c.args.bytes.now in
-    let prefix = c.prefix_by_window-prefix.ensures.len in
-    kept_put f bytes _ _ _ (encoding_texts f bytes) Strict ((all_unchanged f bytes c.prefix_by_window-prefix.result.len prefix).0 c.if-prefix-bytes.true) c.copy_to_slice.result
-    c.map_err.result c.args.buf.now c.copy_to_slice.new.buf (omega arith) c.map_err.ensures.cases c.copy_to_slice.ensures
+    let prefix = c.unchanged_prefix_by_call-prefix.ensures.len in
+    kept_put f bytes _ _ _ (encoding_texts f bytes) Strict ((all_unchanged f bytes c.unchanged_prefix_by_call-prefix.result.len prefix).0 c.if-prefix-bytes.true) c.copy_by_call.result
+    c.map_err.result c.args.buf.now c.copy_by_call.new.buf (omega arith) c.map_err.ensures.cases c.copy_by_call.ensures

@@ -11,11 +11,11 @@ pub returns : goal.returns
 returns g c =
     let f = g.F.Flavor.flavor in
     let bytes = c.args.bytes.now in
-    let n = c.prefix_by_window-prefix.result.len in
+    let n = c.unchanged_prefix_by_call-prefix.result.len in
     let prefix = c.append_short.ensures.bytes ∙ ap (λ bs. c.args.before.items ++ bs) (sym (take_all n bytes (omega (arith, c.if-prefix-bytes.false)))) in
     record {
       text = none_left f Strict bytes (drop n bytes) _ _
-          (prefix_appended f bytes n c.prefix_by_window-prefix.ensures.len bytes _ _ _ (nothing_read f Strict bytes c.args.before.items) prefix)
+          (prefix_appended f bytes n c.unchanged_prefix_by_call-prefix.ensures.len bytes _ _ _ (nothing_read f Strict bytes c.args.before.items) prefix)
           (omega (arith, length-drop n bytes, c.if-prefix-bytes.false));
       capacity = c.append_short.ensures.capacity;
       none = tt;

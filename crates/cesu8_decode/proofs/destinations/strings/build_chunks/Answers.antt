@@ -22,9 +22,9 @@ returns g c =
     let rest_len : c.in_ok-rest_len.rest_len ≡ lossy_length f rest =
     subst (λ r. IfSome r (λ len. len ≡ lossy_length f rest)) c.in_ok-rest_len.ensures.ok_part c.lossy_len.ensures.some in
     let sum = subst (λ r. SomeIff r (end + c.in_ok-rest_len.rest_len < 2 ^ 64) (end + c.in_ok-rest_len.rest_len)) c.in_ok-len.ensures.ok_part c.checked_add.ensures in
-    let items : c.append.new.out.items ≡ chunk = c.append.ensures.bytes ∙ ap (λ old. old ++ chunk) c.in_ok-text.ensures.items in
-    let long : length c.append.new.out.items ≡ end =
+    let items : c.append_by_call.new.out.items ≡ chunk = c.append_by_call.ensures.bytes ∙ ap (λ old. old ++ chunk) c.in_ok-text.ensures.items in
+    let long : length c.append_by_call.new.out.items ≡ end =
     ap length items ∙ length-take-le end c.write_all.new.out (omega (arith, c.in-Ok.ensures.end, c.write_all.auto.out, c.first_part.ensures.first)) in
-    built_after f bytes first rest c.append.new.out _ c.first_part.ensures.parts (c.first_part.ensures.apart f)
+    built_after f bytes first rest c.append_by_call.new.out _ c.first_part.ensures.parts (c.first_part.ensures.apart f)
     (subst (IsReadSoFar f Lossy first [] []) (sym items) c.in-Ok.ensures.text)
-    (omega (arith, c.append.ensures.capacity, c.in_ok-text.ensures.exact, sum.1, rest_len, long)) c.in-Ok-append_chunks.ensures
+    (omega (arith, c.append_by_call.ensures.capacity, c.in_ok-text.ensures.exact, sum.1, rest_len, long)) c.in-Ok-append_chunks.ensures

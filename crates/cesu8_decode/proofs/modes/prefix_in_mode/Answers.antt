@@ -1,7 +1,7 @@
 -- Each mode returns what it keeps. For the encoding alone, the unchanged prefix is all bytes exactly
 -- if nothing in them needs conversion.
 use Rattle.cesu8_decode.proofs.chunks.UnchangedPrefixes.{all_unchanged, found_unless_kept}
-use Rattle.cesu8_decode.proofs.modes.prefix_of_other.Goals as goal
+use Rattle.cesu8_decode.proofs.modes.prefix_in_mode.Goals as goal
 
 pub returns-in-Lenient : goal.returns-in-Lenient
 returns-in-Lenient g c = rw c.in-Lenient.is c.lenient_prefix.ensures
@@ -10,5 +10,4 @@ pub returns-in-EncodingAlone : goal.returns-in-EncodingAlone
 returns-in-EncodingAlone g c =
     let f = g.F.Flavor.flavor in
     let bytes = c.args.bytes.now in
-    let found = c.unchanged_prefix-prefix.ensures in
-    rw c.in-EncodingAlone.is (found_unless_kept f _ bytes _ found (λ stays. stays) (all_unchanged f bytes _ found.len).1)
+    rw c.in-EncodingAlone.is (found_unless_kept f _ bytes _ c.requires (λ stays. stays) (all_unchanged f bytes _ c.requires.len).1)
