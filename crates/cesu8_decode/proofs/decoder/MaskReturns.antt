@@ -1,6 +1,6 @@
 -- What functions on masks return. A function cites these lemmas by `using`, so its proof names none
 -- of its variables or branches, and a rewritten body keeps the proof.
-use Rattle.std.proofs.Common.{◌≡◌, ℕ, ◌+◌, ◌-◌, ◌*◌, ◌/◌, ◌%◌, ◌^◌, ◌<◌, cond, ◌&&◌, eqb, ltb, List, ◌++◌, map, replicate, length, get_or, bit_and, sym, ap, subst, ◌∙◌, refl}
+use Rattle.std.proofs.Common.{◌≡◌, ℕ, ◌+◌, ◌-◌, ◌*◌, ◌/◌, ◌%◌, ◌^◌, ◌<◌, cond, ◌&&◌, eqb, ltb, List, ◌++◌, map, replicate, length, get_or, bit_and, sym, ap, ◌∙◌, refl}
 use Rattle.std.specs.Int.{bit_at}
 use Rattle.std.proofs.lemmas.Nat.{and_comm}
 use lib.Lanes.{mask_l}
@@ -14,31 +14,24 @@ use Rattle.cesu8_decode.proofs.decoder.MaskTests.{no_null_byte, null_byte, null_
 
 -- ---- bits
 
-pub lowest_bits : (n : ℕ) → n < 64 → HasBits (1 * 2 ^ n % 2 ^ 64 - 1) (λ i. ltb i n)
-lowest_bits n few = subst (λ a. HasBits a (λ i. ltb i n)) (sym (power_less_one n few)) (first_have_bits n)
-
 pub lowest_bit : (n i : ℕ) → n < 64 → bit_at (1 * 2 ^ n % 2 ^ 64 - 1) i ≡ cond (ltb i n) 1 0
-lowest_bit n i few = (lowest_bits n few).bit i
+lowest_bit n i few = ap (λ a. bit_at a i) (power_less_one n few) ∙ (first_have_bits n).bit i
 
 pub all_bits : (n i : ℕ) → n ≡ 64 → bit_at (2 ^ 64 - 1) i ≡ cond (ltb i n) 1 0
 all_bits n i all = (first_have_bits 64).bit i ∙ ap (λ k. cond (ltb i k) 1 0) (sym all)
 
-pub ruleset first_bits_returned = (lowest_bits, lowest_bit, all_bits)
+pub ruleset first_bits_returned = (lowest_bit, all_bits)
 
 -- ---- null bytes
 
-pub null_bytes_are : (f : Flavor) (xs : List ℕ) (n a : ℕ) → a ≡ mask_l (map (λ b. eqb b 0) xs) → length xs ≡ n → f ≡ Mutf8 →
-    HasBits a (λ i. ltb i n && is_null f (get_or xs i 0))
-null_bytes_are f xs n a is long mutf8 =
-    by_equal_test _ (λ i k. ltb i (long k) && null_byte f (get_or xs i 0) mutf8 k) (class_within (λ b. eqb b 0) xs is)
+pub null_bit : (f : Flavor) (xs : List ℕ) (i : ℕ) → f ≡ Mutf8 →
+    bit_at (mask_l (map (λ b. eqb b 0) xs)) i ≡ cond (ltb i (length xs) && is_null f (get_or xs i 0)) 1 0
+null_bit f xs i mutf8 =
+    (class_within (λ b. eqb b 0) xs refl).bit i ∙ ap (λ t. cond (ltb i (length xs) && t) 1 0) (null_byte f (get_or xs i 0) mutf8)
 
 pub no_null_bytes : (f : Flavor) (xs : List ℕ) (n : ℕ) → (f ≡ Mutf8 → ⊥) → HasBits 0 (λ i. ltb i n && is_null f (get_or xs i 0))
 no_null_bytes f xs n other =
     by_equal_test _ (λ i. sym (ap (λ t. ltb i n && t) (no_null_byte f (get_or xs i 0) other) ∙ dropped (ltb i n))) no_bits
-
-pub null_bit : (f : Flavor) (xs : List ℕ) (i : ℕ) → f ≡ Mutf8 →
-    bit_at (mask_l (map (λ b. eqb b 0) xs)) i ≡ cond (ltb i (length xs) && is_null f (get_or xs i 0)) 1 0
-null_bit f xs i mutf8 = (null_bytes_are f xs _ _ refl refl mutf8).bit i
 
 pub ruleset null_bytes_returned = (null_bit, no_null_bytes)
 
