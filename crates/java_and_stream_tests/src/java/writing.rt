@@ -1,10 +1,13 @@
 //! The call that appends to a vector, and the call that writes to a buffer, of each length near the
 //! needed one.
 
+use crate::asserts::assert_of;
 use java_text::{WriteFault, WriteSliceFault, read_utf, write_utf, write_utf_to_slice};
-use std::alloc::{AllocError, Global};
+use std::alloc::Global;
 use std::ops::Range;
-use std::test::Fail;
+use std::process::Abort;
+use std::str;
+use test_cases::fills::{joined, repeated};
 use test_cases::slices::{buffer, holds};
 
 /// What a call has to write for a string: its form, or an error with the length of its MUTF-8 if
@@ -12,27 +15,31 @@ use test_cases::slices::{buffer, holds};
 type Due<'a> = Result<&'a [u8], usize>;
 
 /// Whether `write_utf` appends the right bytes to a vector that has some.
-fn is_appended(alloc: Global, text: &str, due: Due<'_>) -> Result<bool, AllocError> {
-    let mut buf = vec![in alloc; 1, 2]?;
+fn is_appended(alloc: Global, text: &str, due: Due<'_>) -> bool {
+    let Ok(mut buf) = vec![in alloc; 1, 2] else {
+        return false;
+    };
     let written = write_utf(text, &mut buf);
-    Ok(match (written, buf.as_slice(), due) {
+    match (written, buf.as_slice(), due) {
         (Ok(()), [1, 2, form @ ..], Ok(due)) => form == due,
         (Err(WriteFault::TooLong(length)), [1, 2], Err(due)) => length == due,
         _ => false,
-    })
+    }
 }
 
 /// Whether `write_utf_to_slice` has the right result with a buffer of this length, and writes
 /// nothing else.
-fn is_written(alloc: Global, text: &str, due: Due<'_>, room: usize) -> Result<bool, AllocError> {
-    let mut buf = buffer(alloc, room)?;
+fn is_written(alloc: Global, text: &str, due: Due<'_>, room: usize) -> bool {
+    let Ok(mut buf) = buffer(alloc, room) else {
+        return false;
+    };
     let written = write_utf_to_slice(text, &mut buf[..]);
     let (want, front): (_, &[u8]) = match due {
         Ok(form) if form.len() <= room => (Ok(form.len()), form),
         Ok(form) => (Err(WriteSliceFault::TooShort(form.len())), b""),
         Err(length) => (Err(WriteSliceFault::TooLong(length)), b""),
     };
-    Ok(written == want && holds(buf.as_slice(), front))
+    written == want && holds(buf.as_slice(), front)
 }
 
 /// Some strings, and their forms.
@@ -48,30 +55,24 @@ static FORMS: [(&str, &[u8]); 5] = [
 type Wrong = (&'static str, Option<usize>);
 
 /// The first call with a wrong result, with buffers of these lengths.
-fn wrong_call(
-    alloc: Global,
-    text: &str,
-    due: Due<'_>,
-    rooms: Range<usize>,
-) -> Result<Option<Wrong>, AllocError> {
-    if !is_appended(alloc, text, due)? {
-        return Ok(Some(("write_utf", None)));
+fn wrong_call(alloc: Global, text: &str, due: Due<'_>, rooms: Range<usize>) -> Option<Wrong> {
+    if !is_appended(alloc, text, due) {
+        return Some(("write_utf", None));
     }
     for room in rooms {
-        if !is_written(alloc, text, due, room)? {
-            return Ok(Some(("write_utf_to_slice", Some(room))));
+        if !is_written(alloc, text, due, room) {
+            return Some(("write_utf_to_slice", Some(room)));
         }
     }
-    Ok(None)
+    None
 }
 
 #[test]
-fn writes_forms(rt: HostRuntime) -> Result<(), Fail> {
+fn writes_forms(rt: HostRuntime) {
     for (text, form) in &FORMS {
-        let wrong = wrong_call(rt.alloc(), text, Ok(form), 0..10)?;
-        assert_eq!(rt; wrong, None, "{text:?}");
+        let wrong = wrong_call(rt.alloc(), text, Ok(form), 0..10);
+        assert_of(&rt, wrong.is_none(), &(wrong, *text));
     }
-    Ok(())
 }
 
 /// Characters of one, two, three and six bytes of MUTF-8, and this MUTF-8.
@@ -96,25 +97,22 @@ static COUNTS: [(usize, &[u8]); 9] = [
     (65536, b""),
 ];
 
-/// A string whose MUTF-8 has this length, and its form with these bytes as the count. The string is
-/// the character as many times as it fits, and then `a`.
+/// The bytes of a character of `width` bytes of MUTF-8, as many times as it fits in `length` bytes,
+/// and then `a`. The bytes of the count are at the front.
 fn counted(
+    rt: &impl Abort,
     alloc: Global,
-    (character, mutf8): (&str, &[u8]),
-    length: usize,
     count: &[u8],
-) -> Result<(String, Vec<u8>), AllocError> {
-    let mut text = String::new(alloc);
-    let mut form = Vec::from_slice(alloc, count)?;
-    for _time in 0..length.checked_div(mutf8.len()).unwrap_or(0) {
-        text.push_str(character)?;
-        form.extend_from_slice(mutf8)?;
-    }
-    for _time in 0..length.checked_rem(mutf8.len()).unwrap_or(0) {
-        text.push('a')?;
-        form.push(b'a')?;
-    }
-    Ok((text, form))
+    character: &[u8],
+    (length, width): (usize, usize),
+) -> Vec<u8> {
+    let characters = repeated(alloc, character, length.checked_div(width).unwrap_or(0));
+    let letters = repeated(alloc, b"a", length.checked_rem(width).unwrap_or(0));
+    let (characters, letters) = (
+        characters.expect(rt, "bytes"),
+        letters.expect(rt, "letters"),
+    );
+    joined(alloc, &[count, &characters, &letters]).expect(rt, "a string")
 }
 
 /// Whether `read_utf` returns the string for its form, with no bytes left. A string without a form
@@ -129,36 +127,42 @@ fn is_read(alloc: Global, text: &str, due: Due<'_>) -> bool {
     }
 }
 
-/// Like `wrong_call`, for a string whose MUTF-8 has this length, and with a call that reads the
-/// form.
-fn wrong_count(
+/// Like `wrong_call`, for a string whose MUTF-8 has this length, with buffers about as long and with
+/// a call that reads the form.
+fn wrong_count(alloc: Global, text: &str, due: Due<'_>, length: usize) -> Option<Wrong> {
+    if !is_read(alloc, text, due) {
+        return Some(("read_utf", None));
+    }
+    let rooms = length.saturating_add(1)..length.saturating_add(4);
+    wrong_call(alloc, text, due, 0..3).or(wrong_call(alloc, text, due, rooms))
+}
+
+/// Asserts what the calls return for a string of a character whose MUTF-8 has this length, and
+/// whose form begins with this count. If it is too long, there is no count.
+fn assert_count(
+    rt: &impl Abort,
     alloc: Global,
-    character: (&str, &[u8]),
+    (character, mutf8): (&str, &[u8]),
     length: usize,
     count: &[u8],
-) -> Result<Option<Wrong>, AllocError> {
-    let (text, form) = counted(alloc, character, length, count)?;
-    let text = text.as_str();
+) {
+    let sizes = (length, mutf8.len());
+    let utf8 = counted(rt, alloc, b"", character.as_bytes(), sizes);
+    let form = counted(rt, alloc, count, mutf8, sizes);
     let due = if count.is_empty() {
         Err(length)
     } else {
         Ok(form.as_slice())
     };
-    if !is_read(alloc, text, due) {
-        return Ok(Some(("read_utf", None)));
-    }
-    let wrong = wrong_call(alloc, text, due, 0..3)?;
-    let rooms = length.saturating_add(1)..length.saturating_add(4);
-    Ok(wrong.or(wrong_call(alloc, text, due, rooms)?))
+    let wrong = wrong_count(alloc, str::from_utf8(&utf8).unwrap_or(""), due, length);
+    assert_of(rt, wrong.is_none(), &(wrong, length, character));
 }
 
 #[test]
-fn counts_in_two_bytes(rt: HostRuntime) -> Result<(), Fail> {
+fn counts_in_two_bytes(rt: HostRuntime) {
     for character in &CHARACTERS {
         for (length, count) in &COUNTS {
-            let wrong = wrong_count(rt.alloc(), *character, *length, count)?;
-            assert_eq!(rt; wrong, None, "{length}: {character:?}");
+            assert_count(&rt, rt.alloc(), *character, *length, count);
         }
     }
-    Ok(())
 }

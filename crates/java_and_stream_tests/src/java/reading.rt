@@ -1,13 +1,14 @@
 //! The calls that return a text, and the calls that write it to a buffer, of each length up to more
 //! than is needed.
 
-use crate::reading::Due::{Borrowed, Invalid, Owned, Truncated};
+use crate::asserts::assert_of;
+use crate::java::reading::Due::{Borrowed, Invalid, Owned, Truncated};
 use java_text::{
     ReadFault, ReadSliceFault, read_utf, read_utf_lossy, read_utf_lossy_to_slice, read_utf_to_slice,
 };
 use simd_cesu8::CowText;
-use std::alloc::{AllocError, Global};
-use std::test::Fail;
+use std::alloc::Global;
+use std::process::Abort;
 use test_cases::slices::{buffer, holds};
 
 /// What a call has to return: a text and the bytes after its form, or an error.
@@ -86,48 +87,38 @@ static ROWS: [(&[u8], Due<'_>, Due<'_>); 15] = [
     (b"\x00\x04\xF0\x9F\x92\x96", Invalid, Owned(FOUR, b"")),
 ];
 
-/// A call with a wrong result, and the length of its buffer if it has one.
-type Wrong = (&'static str, Option<usize>);
-
-/// The first call that returns a text and has a wrong result.
-fn wrong_text(alloc: Global, bytes: &[u8], strict: Due<'_>, lossy: Due<'_>) -> Option<Wrong> {
-    if !strict.is_returned(&read_utf(alloc, bytes)) {
-        Some(("read_utf", None))
-    } else if !lossy.is_returned(&read_utf_lossy(alloc, bytes)) {
-        Some(("read_utf_lossy", None))
-    } else {
-        None
-    }
-}
-
-/// The first call that writes to a buffer, of any length up to 13, and has a wrong result.
-fn wrong_buffer(
+/// Asserts what the calls that write to a buffer of this length return and leave in it.
+fn assert_left(
+    rt: &impl Abort,
     alloc: Global,
     bytes: &[u8],
-    strict: Due<'_>,
-    lossy: Due<'_>,
-) -> Result<Option<Wrong>, AllocError> {
+    (strict, lossy): (Due<'_>, Due<'_>),
+    room: usize,
+) {
+    let mut buf = buffer(alloc, room).expect(rt, "a buffer");
+    let read = read_utf_to_slice(bytes, &mut buf);
+    let is_left = strict.is_left(read, &buf);
+    assert_of(rt, is_left, &("read_utf_to_slice", room, bytes));
+    let mut buf = buffer(alloc, room).expect(rt, "a buffer");
+    let read = read_utf_lossy_to_slice(bytes, &mut buf);
+    let is_left = lossy.is_left(read, &buf);
+    assert_of(rt, is_left, &("read_utf_lossy_to_slice", room, bytes));
+}
+
+/// Asserts what each call returns for a row, with buffers of any length up to 13.
+fn assert_row(rt: &impl Abort, alloc: Global, bytes: &[u8], strict: Due<'_>, lossy: Due<'_>) {
+    let is_returned = strict.is_returned(&read_utf(alloc, bytes));
+    assert_of(rt, is_returned, &("read_utf", bytes));
+    let is_returned = lossy.is_returned(&read_utf_lossy(alloc, bytes));
+    assert_of(rt, is_returned, &("read_utf_lossy", bytes));
     for room in 0..14 {
-        let mut buf = buffer(alloc, room)?;
-        let read = read_utf_to_slice(bytes, buf.as_mut_slice());
-        if !strict.is_left(read, buf.as_slice()) {
-            return Ok(Some(("read_utf_to_slice", Some(room))));
-        }
-        let mut buf = buffer(alloc, room)?;
-        let read = read_utf_lossy_to_slice(bytes, buf.as_mut_slice());
-        if !lossy.is_left(read, buf.as_slice()) {
-            return Ok(Some(("read_utf_lossy_to_slice", Some(room))));
-        }
+        assert_left(rt, alloc, bytes, (strict, lossy), room);
     }
-    Ok(None)
 }
 
 #[test]
-fn reads_rows(rt: HostRuntime) -> Result<(), Fail> {
+fn reads_rows(rt: HostRuntime) {
     for (bytes, strict, lossy) in &ROWS {
-        let text = wrong_text(rt.alloc(), bytes, *strict, *lossy);
-        let buffer = wrong_buffer(rt.alloc(), bytes, *strict, *lossy)?;
-        assert_eq!(rt; (text, buffer), (None, None), "{bytes:?}");
+        assert_row(&rt, rt.alloc(), bytes, *strict, *lossy);
     }
-    Ok(())
 }

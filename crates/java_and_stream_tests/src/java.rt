@@ -1,0 +1,5 @@
+//! Tests of `java_text`.
+
+mod faults;
+mod reading;
+mod writing;

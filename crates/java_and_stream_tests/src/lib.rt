@@ -1,0 +1,11 @@
+//! Tests of the public calls of `java_text` and `cesu8_stream`. The expected values were not
+//! computed by them. Both are tested in one crate, since each crate of tests costs the same again
+//! for what it loads.
+#![tactic(auto)]
+
+#[cfg(test)]
+mod asserts;
+#[cfg(test)]
+mod java;
+#[cfg(test)]
+mod stream;

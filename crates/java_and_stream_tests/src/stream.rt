@@ -1,0 +1,5 @@
+//! Tests of `cesu8_stream`.
+
+mod cuts;
+mod lossy;
+mod windows;

@@ -1,0 +1,59 @@
+//! Damaged input that is longer than a window of the lossy decoder, with a character or damage at
+//! each offset around the end of the first window.
+
+use crate::asserts::assert_of;
+use crate::stream::cuts::{CHARACTERS, DAMAGED};
+use crate::stream::lossy::is_read;
+use std::alloc::{AllocError, Global};
+use std::process::Abort;
+
+/// The buffer of a call. A window has a third of its bytes, and then at least five fewer.
+const ROOM: usize = 300;
+
+/// How many letters come first: the end of the first window is before, in or after what follows.
+const FRONTS: std::ops::Range<usize> = 84..101;
+
+/// Returns a damaged byte, so many letters, the bytes and as many letters again.
+fn surround(
+    alloc: Global,
+    damage: &[u8],
+    count: usize,
+    bytes: &[u8],
+) -> Result<Vec<u8>, AllocError> {
+    let mut whole = Vec::from_slice(alloc, damage)?;
+    for _ in 0..count {
+        whole.push(b'a')?;
+    }
+    whole.extend_from_slice(bytes)?;
+    for _ in 0..count {
+        whole.push(b'b')?;
+    }
+    Ok(whole)
+}
+
+/// Decodes a damaged byte, letters, these bytes and letters in one piece, and compares all that the
+/// calls write.
+fn assert_surrounded(rt: &impl Abort, alloc: Global, is_mutf8: bool, [bytes, text]: [&[u8]; 2]) {
+    for count in FRONTS {
+        let whole = surround(alloc, b"\xFF", count, bytes).expect(rt, "input");
+        let due = surround(alloc, b"\xEF\xBF\xBD", count, text).expect(rt, "its text");
+        let is_right = is_read((is_mutf8, 8), &whole, &due, &mut [0xEE; ROOM]);
+        assert_of(rt, is_right, &(is_mutf8, count, bytes));
+    }
+}
+
+#[test]
+fn reads_a_character_at_the_end_of_a_window(rt: HostRuntime) {
+    for [cesu8, mutf8, utf8] in &CHARACTERS {
+        assert_surrounded(&rt, rt.alloc(), false, [cesu8, utf8]);
+        assert_surrounded(&rt, rt.alloc(), true, [mutf8, utf8]);
+    }
+}
+
+#[test]
+fn reads_damage_at_the_end_of_a_window(rt: HostRuntime) {
+    for (damaged, reading) in &DAMAGED {
+        assert_surrounded(&rt, rt.alloc(), false, [damaged, reading.as_bytes()]);
+        assert_surrounded(&rt, rt.alloc(), true, [damaged, reading.as_bytes()]);
+    }
+}
