@@ -21,7 +21,7 @@ macro_rules! rows {
 /// that are kept. The zeros between are part of the contract, and what they select is overwritten.
 const ROWS: Rows = rows!([] []; 0 1 2 3 4 5 6 7);
 
-/// Returns a reference to the table.
+/// Returns a reference to the table: indexing the constant would copy it to the stack.
 pub fn rows_of_eight() -> &'static Rows
     ensures { AreShufflesOfEight result.now }
 {
