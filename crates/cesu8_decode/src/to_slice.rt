@@ -4,7 +4,7 @@
 ghost use Rattle.cesu8_decode.specs.Modes.{Reads, ReadsLossily};
 ghost use Rattle.cesu8_decode.specs.PutReadings.{PutsText, ReadsAs};
 
-use crate::destinations::slices::{put_lossily, put_strictly};
+use crate::destinations::slices::{copy_by_call, put_lossily, put_strictly};
 use crate::error::WriteError;
 use crate::modes::{Accepts, Mode, prefix_in_mode};
 use crate::prefix::unchanged_prefix;
@@ -41,9 +41,15 @@ fn decode_other_to_slice<F: Flavor, S: Reading>(
     ensures { PutsText S.which (ReadsAs S.which (Reads mode F.flavor bytes.now)
         (ReadsLossily mode F.flavor bytes.now)) result buf.old buf.new }
 {
-    let prefix = prefix_in_mode::<F>(bytes, unchanged_prefix::<F>(bytes), mode);
-    if prefix.len == bytes.len() {
+    // Both modes return input unchanged in which nothing needs conversion, so the mode is tested
+    // after that.
+    let unchanged = unchanged_prefix::<F>(bytes);
+    if unchanged.len == bytes.len() {
         return copy_to_slice(bytes, buf).map_err(WriteError::NoRoom);
+    }
+    let prefix = prefix_in_mode::<F>(bytes, unchanged, mode);
+    if prefix.len == bytes.len() {
+        return copy_by_call(bytes, buf).map_err(WriteError::NoRoom);
     }
     // `Ok` and `?` copy a result field by field: a copy of the whole would wait for the stores.
     match S::strictness() {

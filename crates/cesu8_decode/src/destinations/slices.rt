@@ -176,7 +176,7 @@ fn put_by_array<F: Flavor, S: Reading, const WRITTEN: usize>(
 /// Calls `copy_to_slice`, whose code for each length is long. After more than 64 bytes were read, a
 /// call takes little beside the decoding.
 #[inline(never)]
-fn copy_by_call(bytes: &[u8], buf: &mut [u8]) -> Result<usize, NoRoom>
+pub fn copy_by_call(bytes: &[u8], buf: &mut [u8]) -> Result<usize, NoRoom>
     ensures { PutsAnswer bytes.now result buf.old buf.new }
 {
     copy_to_slice(bytes, buf)

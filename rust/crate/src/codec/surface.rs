@@ -17,7 +17,7 @@ use super::bytes::writing::copies::append_short;
 use super::calls::{self, TooShort, mutf8};
 use super::decode::error::WriteError;
 use super::decode::lanes::character_set::Unchanged;
-use super::decode::modes::{Accepts, EncodingAlone, Lenient, prefix_unless_kept};
+use super::decode::modes::{Accepts, EncodingAlone, Lenient, Mode, prefix_unless_kept};
 use super::decode::pass::short::{SHORT_STRICT, write_short};
 use super::decode::prefix::{UnchangedPrefix, longest_prefix};
 use super::decode::to_slice::decode_to_slice;
@@ -88,13 +88,13 @@ struct Tested;
 
 impl Accepts for Tested {
     #[cfg_attr(not(debug_assertions), inline(always))]
-    fn is_short_kept<F: Flavor>(_: &[u8]) -> bool {
-        false
+    fn mode() -> Mode {
+        Mode::EncodingAlone
     }
 
     #[cfg_attr(not(debug_assertions), inline(always))]
-    fn prefix_of_other<F: Flavor>(bytes: &[u8]) -> UnchangedPrefix {
-        EncodingAlone::prefix_of_other::<F>(bytes)
+    fn is_short_kept<F: Flavor>(_: &[u8]) -> bool {
+        false
     }
 }
 
