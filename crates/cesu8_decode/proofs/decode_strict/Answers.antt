@@ -18,18 +18,3 @@ returns-in-Ok-clause-text g c =
     let read = whole_text g.F.Flavor.flavor Strict c.args.bytes.now _ (rw none at c.in-Ok.ensures.text) in
     subst (λ bytes. IsStrictReading g.F.Flavor.flavor c.args.bytes.now (chars bytes)) (sym c.known_string.ensures.bytes)
     (read.0, read.2 refl)
-
-pub write_strictly-requires-clause-prefix : goal.write_strictly-requires-clause-prefix
-write_strictly-requires-clause-prefix g c = c.requires
-
-pub returns-in-Ok-clause-invalid : goal.returns-in-Ok-clause-invalid
-returns-in-Ok-clause-invalid g c = tt
-
-pub returns-in-Err-clause-text : goal.returns-in-Err-clause-text
-returns-in-Err-clause-text g c = tt
-
-pub returns-in-Err-clause-capacity : goal.returns-in-Err-clause-capacity
-returns-in-Err-clause-capacity g c = tt
-
-pub returns-in-Err-clause-invalid : goal.returns-in-Err-clause-invalid
-returns-in-Err-clause-invalid g c = c.in-Err.ensures.none.1

@@ -1,8 +1,7 @@
 -- Each round converts a piece of the window, moves the unread bytes to its start and reads more
 -- after them. One proof for each way in which the loop ends: at the end of the input, at damage, or
 -- at an error of a read or a write.
-use borrow.Rule.Slice.PartMut.{put_mid}
-use Rattle.std.proofs.Common.{◌≡◌, ◌+◌, ◌-◌, ◌++◌, ◌≤◌, ◌==◌, [], true, false, List, length, take, drop, refl, sym, subst, ap, ◌∙◌, arith, length-take, length-drop, length-append, ℕ, ◌<◌}
+use Rattle.std.proofs.Common.{◌≡◌, ◌+◌, ◌-◌, ◌++◌, ◌≤◌, ◌==◌, [], true, false, length, take, drop, refl, subst, ap, ◌∙◌, arith, length-take, length-drop, length-append, ℕ, ◌<◌}
 use Rattle.std.proofs.lemmas.Bool.Decides.{nat_tests}
 use Rattle.std.proofs.lemmas.List.{length-take-le}
 use Rattle.std.proofs.KnownBytes.{Appends-nil, Appends-trans, Consumes-nil}
@@ -122,37 +121,3 @@ loop-preserved g c =
           not_last joined);
       appended = Appends-trans _ _ _ before.output taken.output before.appended taken.appended;
     }
-
--- What is read stays within the window, and what is converted of it within what was read.
-inside-window : (window tail : List ℕ) (unread count : ℕ) → unread ≤ length window → count ≤ length tail →
-    unread + count ≤ length (put_mid unread (length window - unread) window tail)
-inside-window window tail unread count low few = room-within window tail (left-over (length window - unread) unread window) unread count low few
-
-inside-piece : (whole : List ℕ) (end read : ℕ) → end ≤ length whole → read ≤ length (take end whole) → read ≤ end
-inside-piece whole end read fits within = omega (arith, length-take-le end whole fits)
-
-pub slice_bounds-convert_piece-end : goal.slice_bounds-convert_piece-end
-slice_bounds-convert_piece-end g c =
-    inside-window c.loop.window c.read.new.buf c.loop.unread c.in-Ok.count c.loop.invariant.unread_fits c.in-Ok.ensures.bound.0
-
-pub slice_bounds-convert_piece-end-in-loop : goal.slice_bounds-convert_piece-end-in-loop
-slice_bounds-convert_piece-end-in-loop g c =
-    sym (length-take-le _ _ (inside-window c.loop.window c.read.new.buf c.loop.unread c.in-Ok.count c.loop.invariant.unread_fits c.in-Ok.ensures.bound.0))
-
-pub copy_within-requires-clause-in_bounds : goal.copy_within-requires-clause-in_bounds
-copy_within-requires-clause-in_bounds g c =
-    inside-window c.loop.window c.read.new.buf c.loop.unread c.in-Ok.count c.loop.invariant.unread_fits c.in-Ok.ensures.bound.0
-
-pub copy_within-requires-in-Err-Damage-clause-in_bounds : goal.copy_within-requires-in-Err-Damage-clause-in_bounds
-copy_within-requires-in-Err-Damage-clause-in_bounds g c =
-    inside-window c.loop.window c.read.new.buf c.loop.unread c.in-Ok.count c.loop.invariant.unread_fits c.in-Ok.ensures.bound.0
-
-pub copy_within-requires-clause-start_le_end : goal.copy_within-requires-clause-start_le_end
-copy_within-requires-clause-start_le_end g c =
-    inside-piece _ _ _ (inside-window c.loop.window c.read.new.buf c.loop.unread c.in-Ok.count c.loop.invariant.unread_fits c.in-Ok.ensures.bound.0)
-    c.in-Ok-convert_piece.ensures.ok.within
-
-pub overflow_sub-unread : goal.overflow_sub-unread
-overflow_sub-unread g c =
-    inside-piece _ _ _ (inside-window c.loop.window c.read.new.buf c.loop.unread c.in-Ok.count c.loop.invariant.unread_fits c.in-Ok.ensures.bound.0)
-    c.in-Ok-convert_piece.ensures.ok.within

@@ -1,10 +1,10 @@
 -- The pass writes over the appended zeros, and the truncation removes those after the text, so the
 -- vector keeps its bytes and gains what the pass wrote.
 use Rattle.std.specs.Prelude.{vec_len, vec_capacity}
-use Rattle.std.proofs.Common.{◌≡◌, ◌≤◌, ◌∙◌, ℕ, ◌+◌, List, ◌++◌, true≢false, refl, sym, ap, subst, arith, length, take, replicate, length-append}
+use Rattle.std.proofs.Common.{◌≡◌, ◌≤◌, ◌∙◌, ℕ, ◌+◌, List, ◌++◌, true≢false, refl, sym, ap, subst, arith, length, take, replicate, length-append, length-drop}
 use Rattle.std.proofs.lemmas.Bool.{not-false, not-true}
 use Rattle.std.proofs.Math.Seq.{take-append-add, take-append_seam}
-use Rattle.std.proofs.lemmas.List.{length-take-le, take-append-le, take-take}
+use Rattle.std.proofs.lemmas.List.{length-replicate, length-take-le, take-append-le, take-take, take_rest}
 use Rattle.cesu8_decode.proofs.destinations.chunks.append_next.Goals as goal
 
 -- What is written after a prefix is unchanged by a truncation at its end.
@@ -67,3 +67,34 @@ returns-else-not-pass-clause-next g c = record {
   text = λ fine. absurd (true≢false (sym (not-false _ c.if-not-pass.false) ∙ fine));
   capacity = refl;
 }
+
+-- If it writes to the vector, the zeros that were appended are long enough.
+pub write_windows-pass-requires-2-clause-room : goal.write_windows-pass-requires-2-clause-room
+write_windows-pass-requires-2-clause-room g c =
+    simp take_rest (omega (
+      arith,
+      length-drop c.len-start.result c.deref_mut.result.now,
+      length-replicate {A = ℕ} c.min.result 0,
+      c.deref_mut.ensures,
+      c.append_zeros.ensures.len,
+      c.min.ensures,
+      c.len-start.ensures,
+      c.if-spare-lt-SMALL_STRICT.false,
+    ))
+
+pub overflow_add-start : goal.overflow_add-start
+overflow_add-start g c =
+    let more = c.write_windows-pass-2.ensures.more in
+    let inside = simp take_rest at more.len in
+    omega (
+      arith,
+      more.inside,
+      inside,
+      length-drop c.len-start.result c.deref_mut.result.now,
+      length-replicate {A = ℕ} c.min.result 0,
+      c.deref_mut.ensures,
+      c.append_zeros.ensures.len,
+      c.min.ensures,
+      c.len-start.ensures,
+      c.capacity.type_inv,
+    )

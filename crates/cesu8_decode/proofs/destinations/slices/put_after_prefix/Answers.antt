@@ -2,7 +2,7 @@
 -- is a text, and its length is added to that of the prefix. The rest is written first, to the slice
 -- from the end of the prefix on; if that fails, the slice is unchanged.
 use borrow.Rule.Slice.PartMut.{put_mid}
-use Rattle.std.proofs.Common.{◌≡◌, ℕ, ◌-◌, ◌≤◌, List, ◌++◌, refl, sym, ap, ◌∙◌, append-nil, arith, length, take, drop, length-drop, length-append}
+use Rattle.std.proofs.Common.{◌≡◌, ℕ, ◌-◌, ◌≤◌, List, ◌++◌, refl, ap, ◌∙◌, append-nil, arith, length, take, drop, length-drop, length-append}
 use Rattle.std.proofs.Math.Seq.{drop-append_seam}
 use Rattle.std.proofs.lemmas.Bool.{both_ways}
 use Rattle.std.proofs.lemmas.List.{take_rest, drop_all, take-append-drop, length-take-le}
@@ -92,6 +92,3 @@ returns-in-Err-NoText g c =
     let puts = rw c.in-Err-NoText.field-0-is at (simp take_rest at c.in-Err-NoText.ensures) in
     prefix_lacks_text f c.args.bytes.now buf c.args.prefix c.requires.prefix.0 (omega arith) (drop start buf) c.put_by_strategy.new.buf _ puts
     (stays start buf c.put_by_strategy.new.buf puts.unchanged)
-
-pub slice_bounds-copy_short-end : goal.slice_bounds-copy_short-end
-slice_bounds-copy_short-end g c = sym (length-take-le c.args.prefix c.args.bytes.now c.requires.prefix.0.within)

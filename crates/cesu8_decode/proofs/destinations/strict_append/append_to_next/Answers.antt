@@ -1,10 +1,14 @@
 -- The unchanged prefix is its own text. If no character that needs conversion follows it, there is
 -- no strict reading; if one does, its UTF-8 follows from the first eight bytes after the prefix.
-use Rattle.std.proofs.Common.{◌∙◌, ℕ, ◌<◌, List, arith, length, drop, length-drop}
+use Rattle.std.proofs.Common.{◌≡◌, ◌∙◌, ℕ, ◌<◌, ◌≤◌, List, true, arith, get_or, length, drop, length-drop}
 use Rattle.std.proofs.lemmas.Bool.{both_ways}
-use Rattle.std.proofs.lemmas.List.{take_rest}
+use Rattle.std.proofs.lemmas.Bool.Decides.{nat_tests}
+use Rattle.std.proofs.lemmas.List.{get_or_past, length-take-le, take_rest}
+use Rattle.cesu8_text.specs.Encoding.{Flavor}
+use Rattle.cesu8_bytes.specs.Pairs.{null_at}
 use Rattle.cesu8_bytes.specs.declared.strictness.Strictness.TheVariants.{Strict}
 use Rattle.cesu8_decode.specs.DecodedOffsets.{IsPrefixOf}
+use Rattle.cesu8_decode.proofs.by_offset.WidthTests.{pair_by_prefix}
 use Rattle.cesu8_decode.proofs.chunks.Changed.{begins_in_prefix, changed_null, changed_pair, seen_null_read, seen_pair_read}
 use Rattle.cesu8_decode.proofs.chunks.TextAfterPrefix.{prefix_appended, unless_begun}
 use Rattle.cesu8_decode.proofs.chunks.ReadChunks.{nothing_read, more_read}
@@ -61,3 +65,36 @@ returns-then-first-clause-capacity g c = c.append.ensures.capacity ∙ c.append_
 
 pub returns-clause-capacity : goal.returns-clause-capacity
 returns-clause-capacity g c = c.append-2.ensures.capacity ∙ c.append_prefix.ensures.capacity
+
+-- The first eight bytes are padded with 00, so a character in them is in the bytes.
+null_within : (f : Flavor) (bytes prefix : List ℕ) → IsPrefixOf bytes prefix → null_at f (get_or prefix 0 0) (get_or prefix 1 0) ≡ true → 2 ≤ length bytes
+null_within f bytes prefix same null =
+    let second = same 1 (omega arith) in
+    grind (arith, nat_tests, get_or_past)
+
+pub slice_bounds-result-start : goal.slice_bounds-result-start
+slice_bounds-result-start g c =
+    let f = g.F.Flavor.flavor in
+    let rest = drop c.args.len c.args.bytes.now in
+    let first = c.first_eight-first.result.now in
+    let same : IsPrefixOf rest first = rw take_rest at c.first_eight-first.ensures.prefix in
+    simp take_rest (null_within f rest first same (changed_null f first (c.changes.ensures.0 c.if-not-changes.false) c.if-first.true))
+
+pub append-requires-2 : goal.append-requires-2
+append-requires-2 g c =
+    let f = g.F.Flavor.flavor in
+    let bytes = c.args.bytes.now in
+    let rest = drop c.args.len bytes in
+    let first = c.first_eight-first.result.now in
+    let same : IsPrefixOf rest first = rw take_rest at c.first_eight-first.ensures.prefix in
+    let inside = (pair_by_prefix rest first same (changed_pair f first (c.changes.ensures.0 c.if-not-changes.false) c.if-first.false)).0 in
+    let front = c.append_prefix.ensures in
+    omega (arith, inside, front.len, front.capacity, length-take-le c.args.len bytes c.requires.prefix.0.within, length-drop c.args.len bytes, c.requires.room)
+
+pub slice_bounds-result-start-2 : goal.slice_bounds-result-start-2
+slice_bounds-result-start-2 g c =
+    let f = g.F.Flavor.flavor in
+    let rest = drop c.args.len c.args.bytes.now in
+    let first = c.first_eight-first.result.now in
+    let same : IsPrefixOf rest first = rw take_rest at c.first_eight-first.ensures.prefix in
+    simp take_rest (pair_by_prefix rest first same (changed_pair f first (c.changes.ensures.0 c.if-not-changes.false) c.if-first.false)).0
