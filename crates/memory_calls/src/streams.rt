@@ -11,6 +11,10 @@ const ROOM: usize = 200_000;
 /// Makes the call of a name, with the bytes as the only piece, and prints why it stopped and what
 /// it wrote. Returns `None` for any other name.
 pub fn make(rt: &HostRuntime, name: &str, flavor: Flavor, bytes: &[u8]) -> Option<io::Result<()>> {
+    // Zeroing the buffer takes long, so other names do not come so far.
+    if !name.starts_with("stream_") {
+        return None;
+    }
     let mut room = [0; ROOM];
     let progress = convert(name, flavor, bytes, &mut room)?;
     let written = &room[..progress.written.min(ROOM)];
