@@ -43,8 +43,8 @@ returns-clause-next g c =
 pub slice_bounds-written-end : goal.slice_bounds-written-end
 slice_bounds-written-end g c = c.write_windows-pass.ensures.more.inside
 
-pub append-requires : goal.append-requires
-append-requires g c =
+pub append_by_call-requires : goal.append_by_call-requires
+append_by_call-requires g c =
     let pass = c.write_windows-pass in
     let more = pass.ensures.more in
     subst (λ n. vec_len c.args.out.now + n ≤ vec_capacity c.args.out.now) (sym (length-take-le pass.result.end pass.new.out more.inside))
@@ -55,8 +55,8 @@ returns-then-not-pass-clause-next g c = record {
   old = _;
   new = c.write_windows-pass.new.out;
   more = c.write_windows-pass.ensures.more;
-  text = λ fine. c.append.ensures.bytes;
-  capacity = c.append.ensures.capacity;
+  text = λ fine. c.append_by_call.ensures.bytes;
+  capacity = c.append_by_call.ensures.capacity;
 }
 
 pub returns-else-not-pass-clause-next : goal.returns-else-not-pass-clause-next
