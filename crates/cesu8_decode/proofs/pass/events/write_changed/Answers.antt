@@ -20,7 +20,7 @@ returns-clause-width g c =
     let at = c.args.at in
     let null : c.args.is_null ≡ true → 2 ≡ width_at f bytes at = λ is. null_wide f bytes at (omega (arith, c.requires.bytes)) (c.requires.null is) in
     let pair : c.args.is_null ≡ false → 6 ≡ width_at f bytes at = λ is. pair_wide f bytes at (omega (arith, c.requires.bytes)) (pair_begins f bytes at (c.requires.pair is)) in
-    grind (arith, null, pair)
+    grind (arith, null, pair) steps 1000000
 
 -- What is written in either case, by the three values that are chosen.
 changed_written : (f : Flavor) (bytes four stored old new : List ℕ) (at end m len utf8 written pair : ℕ) (is_null : Bool) → at + 8 ≤ length bytes → end + 4 ≤ length old →
@@ -47,5 +47,5 @@ returns-clause-written g c =
     let long : length four ≡ 4 = search rules in
     let byte : (i : ℕ) → get_or four i 0 < 0x100 = λ i. search rules in
     changed_written g.F.Flavor.flavor c.args.bytes.now four _ _ _ c.args.at c.args.end _ _ _ _ _ c.args.is_null (omega (arith, c.requires.bytes)) (omega (arith, c.requires.room))
-    c.requires.null c.requires.pair (λ null. grind arith) (λ pair. grind arith)
+    c.requires.null c.requires.pair (λ null. grind arith steps 1000000) (λ pair. grind arith steps 1000000)
     (rw take_rest at c.utf8_of_pair.ensures) long (le_bytes_4 four _ long byte c.from_le_bytes-pair.ensures) c.to_le_bytes.ensures c.put.ensures.writes

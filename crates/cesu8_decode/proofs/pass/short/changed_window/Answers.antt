@@ -59,4 +59,4 @@ returns-clause-window g c =
     let fits : changed < 2 ^ 64 = omega (arith, c.ranges.changed.fits) in
     window_is f source c.args.len changed _ long c.requires.len c.requires.zeros c.requires.changed fits
     (nulls_are f source c.args.len changed _ long c.requires.len c.requires.zeros c.requires.changed fits c.has_long_null.result
-    c.has_long_null.ensures.1 (λ mutf8. grind arith) (λ other. grind arith))
+    c.has_long_null.ensures.1 (λ mutf8. grind arith steps 1000000) (λ other. grind arith steps 1000000))
