@@ -18,7 +18,8 @@ fn main(rt: HostRuntime) -> ExitCode {
     }
 }
 
-/// Passes the arguments to `run`.
+/// Passes the arguments to `run`. If there is no memory for them, this counts as a failed read too,
+/// as docs/PROGRAM.md says of status 4: `Memory` is only for what `run` allocates.
 fn run_words(rt: &HostRuntime) -> Result<(), RunFault> {
     let arguments = arguments(rt)?;
     let mut words = Vec::new(rt.alloc());

@@ -35,8 +35,9 @@ table_bits by_high by_low by_next a b =
 
 -- The class of byte b after byte a (numbers are hexadecimal): 80 after a continuation byte, so b is
 -- a third byte; 20 if b is the second byte of a low surrogate, or of any surrogate if the set has
--- no pairs; 0 if b begins a character or is the second byte of another character. In every other
--- case no character of the set has the two bytes, and the class has an error bit.
+-- no pairs; 0 if b begins a character or is the second byte of another character. A byte from C0 on
+-- that begins none, such as FF, is first taken to begin one: the byte after it has an error bit. In
+-- every other case no character of the set has the two bytes, and the class has an error bit.
 unfoldable pub pair_class : CharacterSet → Flavor → ℕ → ℕ → ℕ
 pair_class s f a b =
     if is_null f b then 0xFF
@@ -84,7 +85,8 @@ pub record IsBlockAt (s : CharacterSet) (window : List ℕ) (i : ℕ) (block : B
   pub three_before : has_changed s ≡ true → block.three_before ≡ chunk (i + 1) 32 window
   pub four_before : has_changed s ≡ true → block.four_before ≡ chunk i 32 window
 
--- The window of some bytes: four zeros precede them, each a character of one byte.
+-- The window of some bytes: four zeros precede them. In MUTF-8 too, each counts as a character of
+-- one byte, since whether a byte is a null is tested only from the fifth byte of a window on.
 abbrev pub after_fillers : List ℕ → List ℕ
 after_fillers bytes = 0 ∷ 0 ∷ 0 ∷ 0 ∷ bytes
 

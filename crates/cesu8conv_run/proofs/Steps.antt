@@ -120,7 +120,9 @@ mixed-lossy-of-mixed w is_last a ahead x h = record {
   written_is = h.written_is;
 }
 
--- A step that decodes is a mixed step: what begins damage is in no encoded character.
+-- A step that decodes is a mixed step. Its damage is also damage of mixed text, since for that too
+-- `IsDamage` says only that no character of the encoding begins there. That none of UTF-8 begins
+-- there is not proved: `pass_step` tests it before it decodes.
 pub mixed-step-of-decoded : (w : FlavorWord) (bytes : List ℕ) (is_last : Bool) (room : List ℕ) (step : Step) →
     IsStep (Decode w) bytes is_last room step → IsStep (Mixed w) bytes is_last room step
 mixed-step-of-decoded w bytes is_last room step h = record {
@@ -139,7 +141,7 @@ written-front answer old new len h =
     let all : length new ≡ length answer + length (drop len old) = ap length h.1 ∙ length-append answer (drop len old) in
     (omega (arith, h.0, all), ap (λ y. take len y) h.1 ∙ take_at answer (drop len old) len (sym h.0))
 
--- Only a call that read all bytes needs more input at its end.
+-- At the end of the input, only a call that read all bytes asks for more.
 pub all-were-read : (state : State) (is_last : Bool) → next_after state is_last ≡ next.Input → is_last ≡ true →
     state ≡ states.InputEmpty
 all-were-read states.InputEmpty is_last e l = refl

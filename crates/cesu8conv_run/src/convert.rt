@@ -1,6 +1,10 @@
 //! A conversion of a stream: any input, in constant memory. The stream is read into one buffer,
 //! converted into another a step at a time, and that is written. What was taken of the input and
 //! what was written belong together after each step, so they do at the end.
+//!
+//! Rattle requires that each loop ends, so these count to `u64::MAX`, which no run reaches. Of what
+//! follows them only the error in `write_whole` occurs, after a write that accepts no byte. An
+//! interrupted call would not be repeated, but the program has no signal handler to interrupt one.
 
 ghost use Rattle.std.specs.Prelude.{◌≡◌, ◌++◌, ℕ, List, length, OnOk, OnErr, IfOk, IfErr, IsTrue};
 ghost use Rattle.std.specs.Io.KnownBytes.{Appends, IsAtEnd};

@@ -9,7 +9,7 @@ use crate::reason::reason_of;
 use crate::target::Target;
 use std::io::{self, ErrorKind};
 
-/// The statuses.
+/// The statuses. 2 is that of a wrong command line, which `clap` gives.
 pub const DONE: u8 = 0;
 
 pub const DAMAGED: u8 = 1;
@@ -34,6 +34,8 @@ pub fn explain(
                 let ahead = &window[..(*ahead).min(window.len())];
                 let _ = say_damage(rt, conversion, input, *offset, ahead);
                 let right = output.written;
+                // Instead of a regular file only a draft was written, and `run_conversion` prints
+                // that the file is not written.
                 if options.output.is_none() {
                     let _ = eprintln!(rt; "cesu8conv: {right} bytes of output are right");
                 }

@@ -1,4 +1,6 @@
--- What the bits of a mask say about the lanes of a vector.
+-- What the bits of a mask say about the lanes of a vector, and each vector as a list by index. The
+-- proofs about the vectors of `lanes/following.rt` cite these lemmas: TableLookups, FollowingLanes,
+-- ErrorMasks and the answers of `two_follow`.
 use Rattle.std.proofs.Common.{◌≡◌, ℕ, zero, suc, ◌+◌, ◌<◌, ◌≤◌, Bool, false, leb, List, ◌++◌, refl, sym, ap, ◌∙◌, arith, map, length, replicate, append-nil, get_or, take_all, Fits, w8}
 use Rattle.std.specs.List.{range_with_len}
 use Rattle.std.proofs.lemmas.Bool.{cases_Bool, leb-false}
@@ -8,11 +10,12 @@ use lib.Lanes.{mask_l, Each1, chunk}
 
 -- ---- the bits of tests
 
+-- The mask of m tests that all fail is 0. Nothing cites this.
 no_bits : (m : ℕ) → mask_l (replicate m false) ≡ 0
 no_bits zero = refl
 no_bits (suc m) = omega (arith, no_bits m)
 
--- If all bits are 0, no lane passes the test.
+-- If all bits are 0, no lane passes the test. Only m = 0 is used, by `no_lane`.
 no_bit : (p : ℕ → Bool) (a n m : ℕ) → mask_l (map p (range_with_len a n) ++ replicate m false) ≡ 0 →
     (i : ℕ) → a ≤ i → i < a + n → p i ≡ false
 no_bit p a zero m none i from before = absurd (omega arith)
