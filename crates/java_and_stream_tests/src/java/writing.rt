@@ -127,8 +127,8 @@ fn is_read(alloc: Global, text: &str, due: Due<'_>) -> bool {
     }
 }
 
-/// Like `wrong_call`, for a string whose MUTF-8 has this length, with buffers about as long and with
-/// a call that reads the form.
+/// Like `wrong_call`, for a string whose MUTF-8 has this length, with buffers about as long and
+/// with a call that reads the form.
 fn wrong_count(alloc: Global, text: &str, due: Due<'_>, length: usize) -> Option<Wrong> {
     if !is_read(alloc, text, due) {
         return Some(("read_utf", None));
