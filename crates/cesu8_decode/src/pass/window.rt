@@ -68,6 +68,7 @@ pub fn write_window<F: Flavor>(
             is_unchanged: false,
         };
     }
+    // `LossyReading` only says that there is space for replacement characters (`ROOM`).
     Written {
         read: window.len,
         end: write_events::<F, LossyReading>(bytes, at, window, out, end),
