@@ -1,7 +1,7 @@
 -- What the bits of a mask say about the lanes of a vector, and each vector as a list by index. The
 -- proofs about the vectors of `lanes/following.rt` cite these lemmas: TableLookups, FollowingLanes,
 -- ErrorMasks and the answers of `two_follow`.
-use Rattle.std.proofs.Common.{◌≡◌, ℕ, zero, suc, ◌+◌, ◌<◌, ◌≤◌, Bool, false, leb, List, ◌++◌, refl, sym, ap, ◌∙◌, arith, map, length, replicate, append-nil, get_or, take_all, Fits, w8}
+use Rattle.std.proofs.Common.{◌≡◌, ℕ, zero, suc, ◌+◌, ◌<◌, ◌≤◌, Bool, false, leb, List, refl, sym, ap, ◌∙◌, arith, map, length, get_or, take_all, Fits, w8}
 use Rattle.std.specs.List.{range_with_len}
 use Rattle.std.proofs.lemmas.Bool.{cases_Bool, leb-false}
 use Rattle.std.proofs.lemmas.Simd.{Each1-get_or, map-map, pick_l-range_with_len}
@@ -10,19 +10,10 @@ use lib.Lanes.{mask_l, Each1, chunk}
 
 -- ---- the bits of tests
 
--- The mask of m tests that all fail is 0. Nothing cites this.
-no_bits : (m : ℕ) → mask_l (replicate m false) ≡ 0
-no_bits zero = refl
-no_bits (suc m) = omega (arith, no_bits m)
-
--- If all bits are 0, no lane passes the test. Only m = 0 is used, by `no_lane`.
-no_bit : (p : ℕ → Bool) (a n m : ℕ) → mask_l (map p (range_with_len a n) ++ replicate m false) ≡ 0 →
-    (i : ℕ) → a ≤ i → i < a + n → p i ≡ false
-no_bit p a zero m none i from before = absurd (omega arith)
-no_bit p a (suc n) m none i from before = grind (arith, cases_Bool, no_bit p (a + 1) n m)
-
+-- If all bits are 0, no lane passes the test.
 pub no_lane : (p : ℕ → Bool) (a n : ℕ) → mask_l (map p (range_with_len a n)) ≡ 0 → (i : ℕ) → a ≤ i → i < a + n → p i ≡ false
-no_lane p a n none = no_bit p a n 0 (ap mask_l (append-nil (map p (range_with_len a n))) ∙ none)
+no_lane p a zero none i from before = absurd (omega arith)
+no_lane p a (suc n) none i from before = grind (arith, cases_Bool, no_lane p (a + 1) n)
 
 -- If no lane reaches a number, all bytes of the window there are less than it.
 pub all_below : (window : List ℕ) (least at n : ℕ) → at + n ≤ length window → mask_l (map (leb least) (chunk at n window)) ≡ 0 →
