@@ -32,14 +32,14 @@ module _ (f : Flavor) (source : List ℕ) (len changed nulls : ℕ) (long : 64 �
       HasBits nulls (λ i. ltb i (length bytes) && is_null_at f bytes (0 + i)) × (nulls < 2 ^ 64)
   nulls_are true mutf8 some none = (
     subst (λ m. HasBits m (λ i. ltb i (length bytes) && is_null_at f bytes (0 + i))) (sym (some refl))
-    (nulls_of_changed f bytes changed changes (chunk 0 64 source) c0
-    (λ i inside. get_or-chunk 0 64 source i 0 (omega (arith, inside, size, few)) ∙ ap (λ k. get_or source k 0) (zero-add i) ∙ sym (alike i))
-    (class_bits (λ b. eqb b 0xC0) (chunk 0 64 source) refl refl)),
+        (nulls_of_changed f bytes changed changes (chunk 0 64 source) c0
+        (λ i inside. get_or-chunk 0 64 source i 0 (omega (arith, inside, size, few)) ∙ ap (λ k. get_or source k 0) (zero-add i) ∙ sym (alike i))
+        (class_bits (λ b. eqb b 0xC0) (chunk 0 64 source) refl refl)),
     omega (arith, some refl, and_le_l changed c0, fits),
   )
   nulls_are false mutf8 some none = (
     subst (λ m. HasBits m (λ i. ltb i (length bytes) && is_null_at f bytes (0 + i))) (sym (none refl))
-    (no_nulls_of_changed f bytes changed changes (λ (is : f ≡ Mutf8). true≢false (sym (mutf8 is)))),
+        (no_nulls_of_changed f bytes changed changes (λ (is : f ≡ Mutf8). true≢false (sym (mutf8 is)))),
     omega (arith, none refl),
   )
 
