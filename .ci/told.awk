@@ -11,6 +11,9 @@
 # of its search. One at which a search met a limit may be true, and so may one that a proof by hand does not
 # fit: its form changes with the code. Such a goal counts only for an edit with a line `shows:`, by which
 # shows.sh shows that the edit is a mistake.
+#
+# A goal does not count if its message says that a name or a field is missing: then a proof names
+# something that the edit has removed, and this does not show that the edit is a mistake.
 
 FNR == 1 { FS = FILENAME ~ /\.owners$/ ? "\t" : " "; $0 = $0 }
 

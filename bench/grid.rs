@@ -77,6 +77,7 @@ impl Grid<'_> {
         Ok(())
     }
 
+    /// All measurements. The driver passes them to `timing::measure`, which takes their times.
     pub fn measured(&mut self) -> impl Iterator<Item = &mut Measured> {
         let cells = self.cells.iter_mut();
         cells.flat_map(|cell| cell.codecs.iter_mut().flatten())

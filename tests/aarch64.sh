@@ -43,8 +43,9 @@ look_at_files() {
         wrong 'these lines are about the programs'
 }
 
-# The names that the archive defines, and those that it requires. It requires nothing that depends
-# on the processor's features.
+# The names that the archive defines, and those that it requires. Each export is a function of
+# chooser.c that calls the code for ARMv8-A, the only level; that code has the same name with `_v8`
+# after it. The archive requires nothing that depends on the processor's features.
 look_at_archive() {
     local archive=$unpacked/lib/libcesu8.a asked
     diff <({ exports | sed 's/.*/&\n&_v8/'; plain_calls; } | sed 's/^/T cesu8_/' | sort) \
@@ -140,6 +141,7 @@ look_at_files
 look_at_archive
 look_at_shared
 mkdir "$scratch/shown" || exit 2
+# With -DARCHIVE tests/exports.c also tests what only the archive and the shared object have.
 call_exports -DARCHIVE "$unpacked/lib/libcesu8.a"
 call_exports -DARCHIVE "$unpacked/lib/libcesu8.so.$major" -Wl,-rpath,"$unpacked/lib"
 by_the_page

@@ -8,7 +8,8 @@ use Rattle.cesu8_bytes.specs.declared.strictness.Strictness.TheVariants.{Strict,
 use Rattle.cesu8_decode.specs.declared.error.WriteError.{WriteError}
 use Rattle.cesu8_decode.specs.declared.error.WriteError.TheVariants.{NoText, TooLong, NoRoom}
 
--- The texts that the input can have, in strict or in lossy decoding, in some mode.
+-- The texts that the input can have, in strict or in lossy decoding. The two relations are those
+-- of a mode: `Reads` and `ReadsLossily` of specs/Modes.
 abbrev pub ReadsAs : Strictness → (reads reads_lossily : List ℕ → Type 0) → List ℕ → Type 0
 ReadsAs Strict reads reads_lossily = λ text. reads text
 ReadsAs Lossy reads reads_lossily = λ text. reads_lossily text

@@ -2,7 +2,7 @@
 
 /// Gets all bytes that a conversion takes, in their order.
 pub trait Watch {
-    /// These bytes were taken. Of them the last one was replaced, if `replaced` is 1.
+    /// These bytes were taken. `replaced` is 0 or 1: if it is 1, the last of them was replaced.
     fn taken(&mut self, bytes: &[u8], replaced: usize);
 }
 
@@ -13,7 +13,7 @@ pub struct Tally {
     pub offset: u64,
     /// How many of them were replaced.
     pub replaced: u64,
-    /// The offset of the first of those.
+    /// The offset of the first of those, or 0 if there is none.
     pub first: u64,
 }
 

@@ -127,6 +127,7 @@ pub fn read(alloc: Global, flavor: Flavor, bytes: &[u8]) -> Result<Reading, Allo
         let width = width(flavor, rest);
         text.push(character(rest.get(..width).unwrap_or(&[])))?;
         if width == 0 {
+            // It never wraps, since there are at most `bytes.len()` such bytes.
             damaged = damaged.wrapping_add(1);
             valid = valid.min(place);
         }

@@ -1,4 +1,4 @@
-//! The text constants of a Java class file.
+//! The text constants of a Java class file: an example of a caller of `java_text`.
 
 ghost use Rattle.std.specs.Prelude.{◌≡◌, ◌↔◌, slice_index, IsOk};
 ghost use Rattle.java_text.specs.Read.{IfRead};

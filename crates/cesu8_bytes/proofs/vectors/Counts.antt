@@ -1,4 +1,5 @@
 -- The sum of the weights of bytes, from the sums of parts, and from the bits and lanes of masks.
+-- The proofs of the functions of src/lanes/count.rt use these lemmas.
 use Rattle.std.proofs.lemmas.Bool.Decides.{nat_tests}
 use Rattle.std.proofs.lemmas.Grind.{common_steps}
 use Rattle.std.proofs.Common.{◌≡◌, ℕ, ◌+◌, ◌*◌, ◌<◌, ◌≤◌, Bool, cond, List, [], ◌∷◌, length, map, take, drop, replicate, refl, sym, ap, ◌∙◌, subst, arith, count_by, sum_by, count_ones, ◌/◌, ◌^◌, Fits, w8, w32}
@@ -59,8 +60,8 @@ ones_total : (p : ℕ → Bool) (xs : List ℕ) → sum_l (ones p xs) ≡ count_
 ones_total p [] = refl
 ones_total p (x ∷ xs) = grind (arith, common_steps, ones_total p xs)
 
--- After n vectors of a block, each lane has counted at most n bytes, and their sum is the count of
--- the class.
+-- What holds after n rounds of the loop in `block_weight`, each for one vector of the block: each
+-- lane has counted at most n bytes, and the sum of the lanes is the count of the class so far.
 pub record HaveCounted (p : ℕ → Bool) (block : List ℕ) (n : ℕ) (lanes : List ℕ) : Type 0 where
   pub long : length lanes ≡ 64
   pub low : Each1 (λ a. a ≤ n) lanes

@@ -24,6 +24,7 @@ pub trait InGroups: InVectors<LANES> {
 impl InGroups for NoByte {
     #[inline(always)]
     fn may_have(a: u8x64, b: u8x64, c: u8x64, d: u8x64) -> bool {
+        // Without this the parameters would be unused. It computes nothing that is needed.
         let _ = a | b | c | d;
         false
     }

@@ -45,7 +45,8 @@ strict_first_chunk f which bytes n reads = grind (arith, nat_tests, chunk_of_tex
 
 -- ---- chunks by windows
 
--- A window of the first n bytes and five more, which decide all characters that begin before n.
+-- A window that begins with five zeros, the first n bytes and five more. These decide all
+-- characters that begin before n. Missing bytes count as zeros.
 abbrev pub IsPaddedFor : ℕ → List ℕ → List ℕ → Type 0
 IsPaddedFor n bytes window =
     (k : ℕ) → k < n + 10 → slice_index window k ≡ slice_index (0 ∷ 0 ∷ 0 ∷ 0 ∷ 0 ∷ bytes) k

@@ -221,8 +221,9 @@ follow_after s f bytes at n each i low inside =
     subst (λ k. follows_at s f (after_fillers bytes) k ≡ true) place
     (follows_after s f bytes (i - 4) ∙ each (i - 4) (omega arith) (omega arith))
 
--- If the bytes up to the start of a block can follow each other, and those of the block can, the
--- bytes up to its end can.
+-- If the bytes before `start` can follow each other, and those of a block can, the bytes up to the
+-- end of the block can. The block begins at `at + 4`. That is `start`, except that the last block
+-- begins before it: it overlaps the block before.
 pub follow_up_to : (s : CharacterSet) (f : Flavor) (bytes : List ℕ) (start at n : ℕ) → FirstFollow s f bytes start → at + 4 ≤ start →
     at + n + 4 ≤ length bytes → AllFollow s f bytes at n → FirstFollow s f bytes (at + n + 4)
 follow_up_to s f bytes start at n before near room each = record {

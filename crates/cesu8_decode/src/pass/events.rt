@@ -1,8 +1,8 @@
 //! Writes the text of a window.
 //!
 //! An event is a surrogate pair, C0 80 in MUTF-8, or a run of ill-formed bytes. The masks of a
-//! window have a bit for each, so one loop over the set bits finds all events in order. The bytes
-//! between two events are unchanged in UTF-8, and are copied.
+//! window give one bit for the first byte of each, so one loop over the set bits finds all events
+//! in order. The bytes between two events are unchanged in UTF-8, and are copied.
 
 ghost use Rattle.std.specs.Prelude.{◌≡◌, ◌+◌, ◌*◌, ◌<◌, ◌≤◌, true, false, length, take, drop, replicate};
 ghost use Rattle.cesu8_text.specs.Text.{utf8};

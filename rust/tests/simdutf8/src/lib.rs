@@ -1,4 +1,5 @@
-//! The part of simdutf8's API that cesu8_rattle uses, over `core`.
+//! The part of simdutf8's API that the crate cesu8_rattle (rust/crate) uses, over `core`. It takes
+//! the place of simdutf8 in tests/rust.sh, since the tests use no registry.
 #![no_std]
 
 pub mod basic {

@@ -1,4 +1,7 @@
-//! Vectors of 16 bytes by NEON.
+//! Vectors of 16 bytes by NEON, which every build for aarch64 may use: `SAFETY: NEON.` means this.
+//!
+//! Functions are always inlined only without debug assertions, since otherwise a debug build would
+//! take minutes.
 #![allow(unused_unsafe)] // Later compilers call some of these without `unsafe`.
 
 use core::arch::aarch64::*;
