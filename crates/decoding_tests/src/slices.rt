@@ -143,7 +143,7 @@ fn decodes_blocks(rt: HostRuntime) {
     }
 }
 
-/// Lengths near the borders of windows.
+/// Lengths near 256 and 1,024 bytes, the most that are decoded to a small and to a large array.
 #[test]
 fn decodes_short_windows(rt: HostRuntime) {
     assert_among(&rt, rt.alloc(), &FILLS, 256);
