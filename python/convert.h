@@ -1,6 +1,6 @@
 // Decodes and encodes Python strings with the library's calls. Python's own error handlers for damage
 // are implemented here. Other error handlers, and all for surrogates, are called by cesu8/_codec.py.
-// Nothing in this file is proved.
+// Only native.c includes this file. Nothing in it is proved.
 
 #include <Python.h>
 #include "cesu8.h"
@@ -123,7 +123,8 @@ static PyObject *text_of_few(
     return answer.status == CESU8_OK ? text_of(few, answer.length) : NULL;
 }
 
-// Decodes UTF-8 that may contain surrogates. Python's own decoder takes several times as long.
+// Decodes UTF-8 that may contain surrogates. Python's own decoder takes several times as long. A
+// `wchar_t` holds any character, since the package is for Linux only.
 static PyObject *text_with_surrogates(const uint8_t *utf8, size_t length)
 {
     wchar_t *wide = length > MOST ? NULL : PyMem_Malloc(length * sizeof *wide), *end = wide;

@@ -1,4 +1,5 @@
-//! The calls for length-prefixed Java strings.
+//! The calls for length-prefixed Java strings. C passes each slice as a pointer and a length, and
+//! `lib.rt` says what every call returns.
 
 ghost use Rattle.std.specs.Prelude.{◌≡◌, ◌≤◌, length, take, IfSome, IfNone};
 ghost use Rattle.java_text.specs.Form.{count_in, counted, IsTruncated};

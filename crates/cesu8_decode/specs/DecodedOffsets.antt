@@ -12,7 +12,8 @@ use Rattle.cesu8_bytes.specs.Packing.{written_for}
 abbrev pub first_width : Flavor → List ℕ → ℕ
 first_width f bytes = width_of f (standing f bytes)
 
--- The first eight bytes are those of the prefix. Missing bytes count as zeros.
+-- The first eight bytes are those of the prefix. Missing bytes count as zeros. A character has at
+-- most six bytes, but the code loads eight as one word.
 abbrev pub IsPrefixOf : List ℕ → List ℕ → Type 0
 IsPrefixOf bytes prefix = (i : ℕ) → i < 8 → slice_index prefix i ≡ slice_index bytes i
 

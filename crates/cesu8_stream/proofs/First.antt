@@ -77,8 +77,8 @@ text_begins write bytes (c ∷ text) append empty some written = (
   },
 )
 
--- The shortest text at the front of bytes is the first character: if another character's text does
--- not fit, neither does it.
+-- The shortest nonempty front of bytes that is a text is the first character alone. So if that
+-- text, written in the other way, does not fit in the room, neither does the first character.
 pub shortest_is_first : (from to : List ℕ → List ℕ) (bytes : List ℕ) (n c room : ℕ) → Appends from → Sizes from →
     from [] ≡ [] → 0 < n →
     ((bs : List ℕ) (d e : ℕ) → Begins from bs d → Begins from bs e → d ≡ e) →
@@ -107,7 +107,8 @@ shortest_is_first from to bytes n c room append sizes empty some one least text 
         let front = text_begins from (take n bytes) text append empty (grind (arith, common_steps)) written in
         by_first longer front.0 front.1
 
--- If no character begins shorter fronts, nor this one, none begins fronts up to this length.
+-- If no character begins a front of fewer than len bytes, nor that of len bytes, none begins a
+-- front of up to len bytes. `whole` is the length of the valid prefix of the first len bytes: 0.
 pub none_up_to : (write : List ℕ → List ℕ) (bytes : List ℕ) (len whole : ℕ) →
     ((m : ℕ) → 0 < m → m < len → BeginsNone write (take m bytes)) → whole ≤ 0 → len ≤ length bytes →
     (whole < length (take len bytes) → BeginsNone write (drop whole (take len bytes))) → (n : ℕ) → 0 < n → n < len + 1 →

@@ -15,7 +15,7 @@ pub joined_text : (s t : List ℕ) → IsText s → IsText t → IsText (s ++ t)
 joined_text [] t is_text other = other
 joined_text (c ∷ s) t is_text other = (is_text.0, joined_text s t is_text.1 other)
 
--- The bytes from one place on, and of these from another on.
+-- To drop m + n bytes is to drop m bytes and then n.
 pub drop_more : (m n : ℕ) (bytes : List ℕ) → drop (m + n) bytes ≡ drop n (drop m bytes)
 drop_more m n bytes = grind (arith, common_steps)
 
@@ -54,7 +54,7 @@ pub nothing : (from to : List ℕ → List ℕ) (bytes old new : List ℕ) → f
 nothing from to bytes old new from_empty to_empty same =
     ([], (tt, from_empty), (rw to_empty refl, rw (to_empty, same) refl))
 
--- What was read is the whole input of another call, at whose front it stands.
+-- A call that converts the whole of `part` reads n bytes, if `part` is the first n of the bytes.
 pub of_whole : (from to : List ℕ → List ℕ) (bytes part old new : List ℕ) (n w : ℕ) → part ≡ take n bytes →
     (text : List ℕ) × IsWritten from part text × StandsAtFront (to text) w old new →
     Converts from to bytes n w old new

@@ -50,6 +50,7 @@ fn show(rt: &HostRuntime, error: &Error) -> u8 {
 /// Does what the command line asks for.
 fn run_matches(rt: &HostRuntime, line: &mut Command<'_>, matches: &ArgMatches<'_>) -> u8 {
     let Some(options) = options_of(matches) else {
+        // Here only a `--lossy` that the command does not have can be wrong.
         return match misplaced_lossy(line) {
             Ok(error) => show(rt, &error),
             Err(_) => out_of_memory(rt),

@@ -143,7 +143,7 @@ fn decodes_blocks(rt: HostRuntime) {
     }
 }
 
-/// Lengths near the borders of windows.
+/// Lengths near 256 and 1,024 bytes, the most that are decoded to a small and to a large array.
 #[test]
 fn decodes_short_windows(rt: HostRuntime) {
     assert_among(&rt, rt.alloc(), &FILLS, 256);
@@ -170,7 +170,7 @@ fn decodes_windows_of_other_bytes(rt: HostRuntime) {
     assert_among(&rt, rt.alloc(), &OTHER_FILLS, 2050);
 }
 
-/// Each number of bytes after the last block.
+/// Each number of bytes after the last block. `FILLS[2..]` leaves out ASCII and U+00E9.
 #[test]
 fn decodes_text_of_each_length(rt: HostRuntime) {
     for fill in &FILLS[2..] {
@@ -180,7 +180,8 @@ fn decodes_text_of_each_length(rt: HostRuntime) {
     }
 }
 
-/// Characters across each border of the groups of blocks whose counts are added up at once.
+/// Text of many windows after 0 to 5 bytes of ASCII, so that windows end at each byte of a
+/// surrogate pair.
 #[test]
 fn decodes_text_across_borders(rt: HostRuntime) {
     for fill in &FILLS[2..] {

@@ -1,4 +1,5 @@
 //! What programs written for `simd_cesu8` 1.2.0 rely on: types, traits, borrowing, allocations.
+//! This package is a drop-in for that published crate, and its library has the same name.
 
 use std::alloc::{GlobalAlloc, Layout, System};
 use std::borrow::Cow;
@@ -222,7 +223,8 @@ fn empty_slices() {
     assert_eq!(simd_cesu8::encode_to_slice("a", &mut []), Err(SliceError::TooShort { needed: 1 }));
 }
 
-/// Threads that call for the first time together agree.
+/// Threads that call for the first time together agree. On x86-64 the first call asks which
+/// features the processor has, since these decide which functions later calls use.
 #[test]
 fn first_calls_at_once() {
     let text = "caf\u{E9} \u{1F496}\0".repeat(40);

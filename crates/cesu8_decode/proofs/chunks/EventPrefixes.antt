@@ -54,7 +54,7 @@ module _ (s : CharacterSet) (f : Flavor) (bytes : List ℕ) (n : ℕ) (whole : A
         },
       )
 
-  -- If no character of the set begins after the prefix, no longer prefix is whole.
+  -- If no character of the set begins after the prefix, no prefix that is longer is whole.
   pub greatest_prefix : ((c : ℕ) (rest : List ℕ) → ¬ (IsOutside s f c) → ¬ (BeginsWith f (drop n bytes) c rest)) →
       (m : ℕ) → n < m → m ≤ length bytes → ¬ (AreWhole s f (take m bytes))
   greatest_prefix none m past within other =
@@ -137,7 +137,7 @@ module _ (f : Flavor) (bytes : List ℕ) (i c : ℕ) (rest : List ℕ) (begins :
       let inside : i < length bytes = omega (arith, long.some, long.fits, ap length begins.bytes_are, length-drop i bytes, length-append (encoding f (c ∷ [])) rest) in
       sym (width_there f bytes i) ∙ width_of_standing f (window_of bytes) bytes i c (follows_zeros bytes) inside (rest, begins)
 
-  -- A character whose encoding is not its UTF-8 is marked.
+  -- A character whose encoding is not its UTF-8 is marked by `is_changed_at`.
   pub otherwise_marked : IsEncodedOtherwise f c → is_changed_at f bytes i ≡ true
   otherwise_marked needs =
       by_form (subst (BeginsChanged f) (sym begins.bytes_are) (otherwise_begins f c rest (shape c begins.scalar) needs))

@@ -22,11 +22,13 @@ and_false t = grind arith
 abbrev pub half : ℕ → ℕ
 half b = b / 0x10 * 0x10
 
--- Tables agree with a function of two bytes if they agree for each first byte and each upper half
--- of the second, and the function does not depend on the second byte's lower half.
+-- The tables agree with a function of two bytes at number i, which has twelve bits: the upper eight
+-- are the first byte, and the lower four are the upper half of the second.
 abbrev tells_at : (high low next : List ℕ) → (ℕ → ℕ → ℕ) → ℕ → Bool
 tells_at high low next tells i = eqb (table_bits high low next (i / 0x10) (i % 0x10 * 0x10)) (tells (i / 0x10) (i % 0x10 * 0x10))
 
+-- Tables agree with a function of two bytes if they agree for each first byte and each upper half
+-- of the second, and the function does not depend on the second byte's lower half.
 pub bits_by_halves : (high low next : List ℕ) (tells : ℕ → ℕ → ℕ) → agree_below (tells_at high low next tells) (λ _. true) 0x1000 ≡ true →
     ((a b : ℕ) → tells a (half b) ≡ tells a b) → (a b : ℕ) → a < 0x100 → b < 0x100 → table_bits high low next a b ≡ tells a b
 bits_by_halves high low next tells agree by_half a b ha hb =

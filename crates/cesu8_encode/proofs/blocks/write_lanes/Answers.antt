@@ -1,5 +1,6 @@
--- If the four rows do not fit, they are stored to an array of their size. The content of the array
--- up to its end is then copied, and it is as long as `packed_len` says, so it fits.
+-- A block is stored as four rows: sixteen bytes for each eight of its bytes. If they do not fit,
+-- they are stored to an array of their size, and only what the first `count` bytes of the block
+-- become is copied. It is as long as `packed_len` says, and the contract requires room for that.
 use Rattle.std.proofs.Common.{◌∙◌, ◌++◌, ap, arith, take}
 use Rattle.std.proofs.lemmas.Grind.{common_steps}
 use Rattle.std.proofs.lemmas.List.{length-take}

@@ -1,6 +1,6 @@
--- What the engine needs to know if an encoding is the input and UTF-8 is the output: each clause is
--- a lemma on one character or on a truncated one. At most one character begins the same bytes, by
--- the law `no_overlap`.
+-- What the engine (src/engine.rt), which is written once for both directions, needs to know if an
+-- encoding is the input and UTF-8 is the output: each clause is a lemma on one character or on a
+-- truncated one. At most one character begins the same bytes, by the law `no_overlap`.
 use Rattle.cesu8_stream.proofs.Characters.{encoding_empty, encoding_some, encoding_few, utf8_few, one_encoded_begins}
 use Rattle.cesu8_stream.proofs.Completions.{part_completes}
 use Rattle.cesu8_stream.proofs.conversion.FromEncodingConversion.laws.Goals as goal
