@@ -93,8 +93,9 @@ IsOutput (Mixed word) input output =
 IsOutput (MixedLossy word) input output =
     (text : List ℕ) × IsMixed true (flavor_of word) input text × (output ≡ utf8 text)
 
--- The bytes begin with damage: no character of the command's input begins them. The lossy commands
--- know no damage.
+-- The bytes begin with damage: no character of the command's input begins them. For mixed input
+-- this states only that none in the encoding does, and not that none in UTF-8 does. The lossy
+-- commands know no damage.
 abbrev pub IsDamage : Conversion → List ℕ → Type 0
 IsDamage (Encode word) bytes = BeginsNone utf8 bytes
 IsDamage (Decode word) bytes = BeginsNone (encoding (flavor_of word)) bytes
