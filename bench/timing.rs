@@ -13,6 +13,8 @@ const BATCH: Duration = Duration::from_micros(40);
 /// One batch of calls on texts takes at least this long. There is one test for UTF-8 in a batch, so its
 /// cost is negligible too.
 const TEXTS_BATCH: Duration = Duration::from_millis(1);
+/// A batch of calls on texts makes at least this many runs. On long texts it makes exactly this
+/// many, since `begin` adds none for those.
 const LEAST_TEXTS_REPEATS: u32 = 16;
 
 /// Inputs of this many bytes or more are measured in fewer rounds.

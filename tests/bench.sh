@@ -5,7 +5,7 @@
 #
 # In a clean clone it proves the libraries first. If there is no rustc that knows the edition 2024, it
 # says that it skipped all. The status is 0 if nothing is wrong. It needs the kit's `rt`, rustc, bash,
-# sed and the core utilities.
+# grep, sed, readelf, objcopy and the core utilities.
 # shellcheck source=tests/lib.sh
 source "$(dirname "${BASH_SOURCE[0]}")/lib.sh" || exit 2
 # shellcheck source=tests/kit.sh

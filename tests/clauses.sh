@@ -9,7 +9,7 @@
 #   passes to `rt check`;
 # - a public function has an `ensures` and no `requires`;
 # - items that exist once for each encoding or kernel are the same, and items that exist once for
-#   both encodings name neither in their clauses;
+#   both encodings do not name CESU-8 in their clauses;
 # - tests/clauses.txt has each public clause, signature and type, and the definitions that these
 #   cite, so that changing one changes a line there.
 # An item that a crate exports from a crate below it is listed as its own.
@@ -102,7 +102,7 @@ those() {
     ' "$scratch/everything" | sort
 }
 
-# Rewrites items for MUTF-8 as items for CESU-8.
+# Rewrites items for MUTF-8 as items for CESU-8. One that names CESU-8 by mistake stays different.
 of_cesu8() {
     sed 's/Cesu8/(Cesu8 of mutf8)/g; s/Mutf8/Cesu8/g; s/cesu8_mutf8_/cesu8_/g'
 }

@@ -154,7 +154,8 @@ look_at_call_pages() {
     fi
 }
 
-# Tests that the man pages and the completion have the commands of PROGRAM.md.
+# Tests that the man pages and the completion have the commands of PROGRAM.md. Among its
+# commands the man page also has a line for `yes`, which the command `needs` prints.
 look_at_words() {
     local page=$unpacked/share/man/man1/cesu8_cli.1 words
     # shellcheck disable=SC2016

@@ -300,6 +300,7 @@ class Arguments(unittest.TestCase):
             kinds.append(memoryview(PAIR[::-1])[::-1])
             for data in kinds:
                 self.assertEqual(cesu8.decode(data, "cesu-8"), "\U0001f496")
+            # The last is not contiguous, and `str` takes only data that is.
             for data in kinds[:-1]:
                 self.assertEqual(str(data, "cesu-8"), "\U0001f496")
                 with self.assertRaises(EOFError):

@@ -1,4 +1,4 @@
-//! The pass: the loop that decodes bytes window by window. In the order of the data:
+//! The pass: the loop that decodes bytes window by window. Each module uses only those before it:
 
 pub mod events; // writes the text of a window
 mod window; // finds the events of one window and writes its text

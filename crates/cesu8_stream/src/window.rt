@@ -1,5 +1,8 @@
 //! Where the last whole character of a window ends, if the window is well-formed. It is a guess
 //! from the last bytes alone: its caller tests it, so a wrong one costs time and nothing else.
+//!
+//! The window is UTF-8, CESU-8 or MUTF-8. A form is a character of one to four bytes, or one half
+//! of a surrogate pair.
 
 ghost use Rattle.std.specs.Prelude.{◌≤◌, length};
 

@@ -9,7 +9,7 @@ use Rattle.cesu8conv_run.proofs.Steps.{take_sum}
 use Rattle.cesu8conv_run.specs.declared.conversion.Conversion.{Conversion}
 use Rattle.cesu8conv_run.specs.declared.step.Step.{Step}
 
--- The front of a buffer that is filled up.
+-- If bytes are written to a buffer after its front, the new front is the old one and these bytes.
 pub filled-up : (room new tail : List ℕ) (filled written : ℕ) → filled ≤ length room → new ≡ take filled room ++ tail →
     take (filled + written) new ≡ take filled room ++ take written tail
 filled-up room new tail filled written fits e =
@@ -45,7 +45,8 @@ all-before bytes n within none = let e : length (drop n bytes) ≡ 0 = ap length
 pub both-within : (bytes : List ℕ) (m n : ℕ) → m ≤ length bytes → n ≤ length (drop m bytes) → m + n ≤ length bytes
 both-within bytes m n first second = omega (arith, length-drop m bytes)
 
--- A step on the bytes from an offset on goes within them.
+-- If a step on the bytes from an offset on reads no more than those, the offset after it is within
+-- all bytes.
 pub step-within : (bytes : List ℕ) (at read : ℕ) → at ≤ length bytes →
     read ≤ length (take (length bytes - at) (drop at bytes)) → at + read ≤ length bytes
 step-within bytes at read within step =
@@ -71,7 +72,7 @@ step-taken concat c is_last bytes sent room tail post at filled step fits before
     step-more concat c is_last bytes sent room (take filled room ++ (tail ++ post)) (tail ++ post) at filled step.read step.written
     fits before (rw (front, ← rest) h.converts) refl
 
--- What was written to the end.
+-- After the front of the buffer was sent, all of the output is sent and nothing is in the buffer.
 pub all-sent : (c : Conversion) (is_last : Bool) (taken ahead sent front : List ℕ) → Converts c is_last taken ahead (sent ++ front) →
     Converts c is_last taken ahead ((sent ++ front) ++ [])
 all-sent c is_last taken ahead sent front h = rw append-nil h

@@ -136,8 +136,9 @@ fn decodes_no_part_of_a_pair(rt: HostRuntime) {
     }
 }
 
-/// The input is 32,768 nulls, which are two reads. Their MUTF-8 is one byte longer than a Java
-/// string can be.
+/// The input is 32,768 nulls. They take two reads, since the program reads at most 16,384 bytes at
+/// once, and a third read reports the end. Their MUTF-8 is one byte longer than a Java string can
+/// be.
 #[test]
 fn says_how_long_a_text_is(rt: HostRuntime) {
     let nulls = [0; 32768];

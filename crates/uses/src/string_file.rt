@@ -49,7 +49,7 @@ fn append_strings(alloc: Global, source: &[u8], target: &mut Vec<u8>) -> Result<
         match java_text::write_utf(text.as_str(), target) {
             Ok(()) => {}
             Err(WriteFault::Memory) => return Err(ReadFault::Memory),
-            // What was read has a form.
+            // The text was read from a Java string, so it is not too long for one.
             Err(WriteFault::TooLong(_)) => unreachable!(),
         }
         rest = after;

@@ -194,7 +194,8 @@ fn inputs() -> u64 {
     env::var("CESU8_INPUTS").ok().and_then(|count| count.parse().ok()).unwrap_or(few)
 }
 
-/// Fails with the input, unless two values are equal and both are borrowed or owned.
+/// Fails with the input, unless the result is as expected and is borrowed if and only if `borrows`
+/// is true.
 #[allow(clippy::ptr_arg)] // Whether it is borrowed is tested.
 fn assert_same<T: ?Sized + ToOwned + PartialEq>(
     result: &Cow<T>,
@@ -428,7 +429,8 @@ macro_rules! test_level {
             let mut random = Random(0x9E37_79B9_7F4A_7C15);
             let mut last = String::new();
             for _ in 0..inputs() {
-                // Where the allocation ends, the bytes end.
+                // The allocation ends with the bytes, so that the address sanitizer, with which
+                // tests/rust.sh runs this too, reports a read past them.
                 let bytes = random.bytes().into_boxed_slice();
                 // SAFETY: the processor has the level's features.
                 #[allow(unused_unsafe)]

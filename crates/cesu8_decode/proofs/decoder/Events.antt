@@ -1,4 +1,5 @@
--- The loop that writes the events of a window.
+-- The loop that writes the events of a window, `write_in_turn`. An event is a surrogate pair, C0 80
+-- in MUTF-8, or a run of ill-formed bytes, which has a bit at its first byte alone.
 use Rattle.std.proofs.Common.{◌≡◌, ℕ, ◌+◌, ◌-◌, ◌*◌, ◌/◌, ◌%◌, ◌^◌, ◌<◌, ◌≤◌, ⊎_elim, inl, inr, Bool, true, false, true≢false, not, eqb, List, refl, sym, ap, ◌∙◌, subst, arith, length, take, drop, length-drop, add-zero, append-nil}
 use Rattle.std.specs.Int.{bit_at, bit_not, trailing_ones, trailing_zeros, w64}
 use Rattle.std.specs.Int.Bits.{bit_and, bit_or}
@@ -24,7 +25,9 @@ use Rattle.cesu8_decode.proofs.decoder.MaskBits.{run_ones, run_ends}
 use Rattle.cesu8_decode.proofs.decoder.WindowEnds.{none_changes, pair_set, null_set, ill_set, pair_unset, null_unset, ill_unset, ends_within, none_inside}
 use Rattle.cesu8_decode.proofs.decoder.EventsDecoded.{NoEventAt, kept_decoded, boundary_after_character, boundary_after_ill_formed, ill_formed_decoded, length_replacements}
 
--- The state of the loop: some bytes of the window are read, and their text is written.
+-- The state of the loop: `read` bytes of the window are read, and their text is written to the
+-- buffer, which was `old` and is `new`, from `start` up to `end`. `events` has the bits of the
+-- events that are left.
 pub record AreRead (f : Flavor) (which : Strictness) (bytes : List ℕ) (at : ℕ) (window : Window) (start : ℕ) (old : List ℕ) (ill read events end : ℕ) (new : List ℕ) : Type 0 where
   pub holds : HoldWindow f bytes at window
   pub ill_formed : ill ≡ window.ill_formed

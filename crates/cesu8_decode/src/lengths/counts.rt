@@ -62,5 +62,7 @@ pub fn saved_by_lanes<F: Flavor, const N: usize>(
     let threes = (masks.threes >> counted).count_ones() as usize;
     let pairs = (masks.pairs >> counted).count_ones() as usize;
     let nulls = (masks.nulls >> counted).count_ones() as usize;
+    // A character of n bytes that becomes m bytes of UTF-8 saves 3 * n - m. For a surrogate pair
+    // this is 18 - 4, and for C0 80 it is 6 - 1.
     2 * (count - others) + 4 * twos + 6 * threes + 14 * pairs + 5 * nulls
 }

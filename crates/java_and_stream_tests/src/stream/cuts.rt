@@ -192,7 +192,8 @@ fn writes_what_fits_in_each_buffer(rt: HostRuntime) {
     }
 }
 
-/// Bytes with which no character begins, whatever follows, and the calls for which this holds.
+/// Bytes with which no character begins, whatever follows, and calls for which this holds. Both
+/// calls that encode read UTF-8, so a row has at most one of them.
 const MALFORMED: [(&[Call], &[u8]); 16] = [
     (&DECODE_AND_ENCODE, b"\x80"),
     (&DECODE_AND_ENCODE, b"\xBF\x80"),

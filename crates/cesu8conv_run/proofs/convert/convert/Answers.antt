@@ -1,6 +1,7 @@
 -- Each round converts a piece of the window, moves the unread bytes to its start and reads more
 -- after them. One proof for each way in which the loop ends: at the end of the input, at damage, or
--- at an error of a read or a write.
+-- at an error of a read or a write. The first proof is for buffers that are too small. The other
+-- two that return `Size` are for cases that never occur, as the comments in convert.rt say.
 use Rattle.std.proofs.Common.{◌≡◌, ◌+◌, ◌-◌, ◌++◌, ◌≤◌, ◌==◌, [], true, false, length, take, drop, refl, subst, ap, ◌∙◌, arith, length-take, length-drop, length-append, ℕ, ◌<◌}
 use Rattle.std.proofs.lemmas.Bool.Decides.{nat_tests}
 use Rattle.std.proofs.lemmas.List.{length-take-le}

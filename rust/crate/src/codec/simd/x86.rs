@@ -1,7 +1,8 @@
 //! Vectors of 16 bytes by SSE2, SSSE3 and SSE4.1, and of 32 by AVX2.
 //!
 //! Each function is inlined into one that has the features of its level (`at_level!`), which runs
-//! only after the processor was asked for them. Level v2 has no vectors of 32 bytes.
+//! only after the processor was asked for them. Level v2 has no vectors of 32 bytes. With debug
+//! assertions the functions are not always inlined, since a debug build would then take minutes.
 #![allow(unused_unsafe)] // Later compilers call some of these without `unsafe`.
 
 use core::arch::x86_64::*;
@@ -202,7 +203,7 @@ impl Vector for __m256i {
     fn sum(self) -> u32 {
         // SAFETY: the level has the instruction.
         let sums = unsafe { _mm256_sad_epu8(self, _mm256_setzero_si256()) };
-        // Each of the four sums is below 2^11, so that no byte of their halves' sum is lost.
+        // Each of the four sums is below 2^11, so additions of 32 bits lose nothing.
         let sums = unsafe { _mm_add_epi32(sums.half(0), sums.half(1)) };
         // SAFETY: the level has the instructions.
         unsafe { _mm_cvtsi128_si32(_mm_add_epi32(sums, _mm_unpackhi_epi64(sums, sums))) as u32 }
