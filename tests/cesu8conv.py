@@ -15,7 +15,8 @@ import subprocess
 import sys
 
 PROGRAM, FOLDER = sys.argv[1:3]
-# The sizes of the program's buffers, around whose edges characters are cut.
+# The size of the buffer that the program reads into, at whose edges characters are cut. It is
+# `WINDOW` in crates/cesu8conv_run/src/run.rt.
 WINDOW = 65536
 REPLACEMENT = "\ufffd".encode()
 # A byte from 01 to 7F is a character in UTF-8 and in both encodings.
@@ -114,7 +115,11 @@ def run_file(data, command, flavor):
 
 
 def run_pipe(data, command, flavor, size):
-    """Runs the program on a pipe that is given so many bytes at a time."""
+    """Runs the program on a pipe that is given so many bytes at a time.
+
+    More than 4,096 bytes are given by `communicate`, which also reads the output meanwhile:
+    otherwise the program and this script could both wait for a full pipe.
+    """
     with subprocess.Popen(words(command, flavor), stdin=subprocess.PIPE, stdout=subprocess.PIPE,
                           stderr=subprocess.PIPE) as child:
         if len(data) > 4096:

@@ -1,6 +1,8 @@
 # Prints the public items of a Rattle file, one a line: the crate, the name, the clause and the
 # whole text on one line, with tabs between them:
 #   awk -v crate=CRATE -v prefix=PREFIX -f contracts.awk FILE
+# PREFIX is printed before each name of a function or another item: the path of the file's module in
+# the crate, such as `mutf8::`, or nothing. tests/clauses.sh runs this and compares the lines.
 # A public function has a line with the clause `!fn`, and one for each clause of its contract: the
 # clause's name, or a dash if it has none. A requirement has the clause `!requires`, and a function
 # without a contract also has `!none`. An implementation of a trait has its ghost members as

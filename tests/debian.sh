@@ -1,6 +1,7 @@
 # Downloads Debian's packages of any architecture, for the scripts that unpack them in a folder. They
 # source this file. The packages come from the mirrors of this machine's apt, so this needs a network. It
-# needs apt-get, dpkg and the core utilities.
+# needs apt-get, dpkg and the core utilities. A script that sources it has `set -e`, which ends it
+# if a package cannot be downloaded, and sets no trap for EXIT, since that is set here.
 # shellcheck shell=bash
 debian=$(mktemp -d)
 trap 'rm -rf "$debian"' EXIT

@@ -158,6 +158,8 @@ look_at_git() {
     fi
 }
 
+# The crates that are copied, and the lines that vendor.sh prints for crates.txt. `simdutf8` is a
+# crate of the kit, so it is not copied.
 libraries=(cesu8_text cesu8_bytes cesu8_encode cesu8_decode simd_cesu8 java_text cesu8_stream)
 lines='cesu8_text:
 cesu8_bytes: cesu8_text
@@ -176,6 +178,7 @@ keys: simd_cesu8 sorted'
 echo "$own" >>"$new/crates.txt"
 prove
 look_at_git
+# The second copy removes a file that the library here does not have, and prints no line again.
 echo 'old' >"$new/crates/simd_cesu8/src/old.rt"
 copy "$lines"$'\n'"$own"
 

@@ -15,7 +15,7 @@ pub record BuildsEncoding {A E : Type 0} (f : Flavor) (text : List ℕ) (result 
   pub capacity : IfOk result (λ encoded. vec_capacity encoded ≡ length (encoding f (chars text)))
 
 -- The encoding is appended to a buffer, whose capacity grows only if it is too small. After an
--- error the content is unchanged.
+-- error the content and the capacity are unchanged.
 pub record AppendsEncoding {A T E : Type 0} (f : Flavor) (text : List ℕ) (result : Result T E) (old new : Vec ℕ A) : Type 0 where
   pub ok : OnOk result (new.items ≡ old.items ++ encoding f (chars text))
   pub err : OnErr result (new.items ≡ old.items)

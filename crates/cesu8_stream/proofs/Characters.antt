@@ -40,7 +40,8 @@ one_utf8_begins bytes c d begins other =
     same_utf8 c d begins.rest other.rest begins.scalar other.scalar
     (rw (sym (append-nil (utf8_of c)), sym (append-nil (utf8_of d))) (sym begins.bytes_are ∙ other.bytes_are))
 
--- One character at most begins bytes in an encoding.
+-- One character at most begins bytes in an encoding. `NoOverlap` is what the function
+-- `laws::no_overlap` of simd_cesu8 ensures: a proof that cites this lemma has it from a call.
 pub one_encoded_begins : NoOverlap → (f : Flavor) (bytes : List ℕ) (c d : ℕ) → Begins (encoding f) bytes c →
     Begins (encoding f) bytes d → c ≡ d
 one_encoded_begins overlap f bytes c d b e =

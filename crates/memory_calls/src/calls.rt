@@ -13,6 +13,9 @@ use test_cases::flavors::Flavor;
 
 /// Makes the allocations and the calls of the line, and prints the result of each call. Then it
 /// prints how many more allocations succeed.
+///
+/// `tests/memory.sh` makes the third allocation of the process fail. How many come first decides
+/// which allocation of a call that is.
 pub fn make_all(rt: &HostRuntime, line: &[u8], bytes: &[u8]) -> io::Result<()> {
     let Some((requests, calls)) = parse_line(line) else {
         return Err(ErrorKind::InvalidInput.into());

@@ -22,9 +22,10 @@ pub struct Repaired<'a> {
 
 /// Reads a log in CESU-8 that may be damaged.
 ///
-/// Each whole record is kept, wherever the damage is. No other way to cut the log into characters
-/// and replaced bytes replaces fewer bytes. The call returns `AllocError` if an allocation fails. A
-/// log without damage and without surrogate pairs needs none.
+/// Each whole record is kept, wherever the damage is. A record is any nonempty text whose CESU-8 is
+/// a part of the log. No other way to cut the log into characters and replaced bytes replaces fewer
+/// bytes. The call returns `AllocError` if an allocation fails. A log without damage and without
+/// surrogate pairs needs none.
 ///
 /// ```rust
 /// let repaired = uses::repair_log(alloc, b"one\n\xED\xA0\xBDtwo\n")?;
@@ -65,7 +66,7 @@ pub fn repair_log(alloc: Global, log: &[u8]) -> Result<Repaired<'_>, AllocError>
 /// Returns a log again, with an encoded U+FFFD for each damaged byte.
 ///
 /// It is the CESU-8 of the log's reading, so it is not damaged, and has the same reading. A log
-/// without damage is returned unchanged, and so is one whose reading has no U+FFFD.
+/// without damage is returned unchanged. If the reading has no U+FFFD, the log has no damage.
 ///
 /// ```rust
 /// let rewritten = uses::rewrite_log(alloc, b"one\n\xEDtwo\n")?;

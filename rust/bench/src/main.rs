@@ -5,7 +5,8 @@
 //! Each row has an input set, a call, and for each codec the nanoseconds of one call: the least of
 //! the rounds, in which the codecs take turns on many different inputs. Last come the families: the
 //! median of their rows' quotients, the faster of the other codecs by the crate. All are called
-//! through the same interface of C, with no copy of the result.
+//! through the same interface of C, with no copy of the result. bench/measured.h declares that
+//! interface, and says what each call must do. In the objects the names begin with `cesu8_static_`.
 
 use std::borrow::Cow;
 use std::collections::BTreeMap;
@@ -42,7 +43,7 @@ fn bytes_of(text: Cow<str>) -> Cow<[u8]> {
     }
 }
 
-/// The crate's calls by the names of the others' symbols.
+/// The crate's calls by the names of the others' symbols, and `utf8`, which calls core alone.
 macro_rules! calls {
     ($($name:ident: $answer:expr;)*) => {
         $(extern "C" fn $name(input: *const u8, length: usize, _: *mut u8, _: usize) -> Outcome {

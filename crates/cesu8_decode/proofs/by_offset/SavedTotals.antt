@@ -1,4 +1,7 @@
--- How many bytes an input saves: the sum over the characters that begin in it.
+-- How many bytes an input saves: the sum over the characters that begin in it. Its lossy reading
+-- has at most three bytes for each input byte. A character saves the difference between three times
+-- its length and the length of its UTF-8. A byte that is replaced saves nothing, since U+FFFD has
+-- three bytes. `lossy_len` (src/lengths.rt) subtracts what the input saves.
 use Rattle.std.proofs.Common.{◌≡◌, ℕ, ◌+◌, ◌<◌, ◌≤◌, List, [], ◌∷◌, ◌++◌, refl, sym, ap, ◌∙◌, arith, length, zero-add, add-zero, subst, get_or, drop, suc, length-drop, get_or-drop}
 use Rattle.cesu8_text.specs.Text.{IsScalarValue}
 use Rattle.cesu8_text.specs.Encoding.{Flavor, encoding}
