@@ -4,7 +4,7 @@
 #   NAME.lines   each line that an edit changes: FILE LINE TEXT
 #   NAME.owners  each function that it changes: NAME FILE FIRST LAST FOLDER, its lines and the folder of its
 #                proof, or NAME FILE 0 0 any if it changes something else; and SHOWN, `shown` if the edit has
-#                a line `shows:`
+#                a line `shows:` (for shows.sh)
 #   rounds       the names of each round
 #   bad          each edit that can't be applied: NAME WHY
 #
@@ -88,6 +88,8 @@ function replace(path, old, new,    k, at, rest, found, place) {
 
 # Finds the functions of a file: their lines, of which attributes are the first, the line after which the
 # body begins, and the folder that their proof has. What stands within a function counts as part of it.
+# Other proofs see the body of a `const fn` and of a function under `#[cycle(..)]` (`is_open`). So
+# no line counts as part of such a body, and an edit of one gets a round of its own.
 function find_functions(path,    k, line, block, indent, first, name_line, body, name, folder, is_open, at) {
     folder = path
     sub(/^src\//, "", folder)

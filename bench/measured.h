@@ -1,5 +1,6 @@
 // The calls of crates/measured, which bench measures, and those of other codecs that it compares them
-// with. In a shared object the names may also begin with cesu8_static_ instead of measured_.
+// with. In a shared object of another codec, or of an older build of this library, the names may
+// also begin with cesu8_static_ instead of measured_.
 #ifndef MEASURED_H
 #define MEASURED_H
 

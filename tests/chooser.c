@@ -1,8 +1,9 @@
-// Calls each function of crates/cesu8_c/chooser.c with stubs in place of the code for both levels. The
-// script compiles the chooser so that it calls `made_up_supports` to ask for the processor's level. Each
-// function must call the code for x86-64-v3 if the processor has that level, and otherwise the code for
-// x86-64-v2. Each argument must be passed unchanged, except for a null pointer. The program prints what
-// is wrong, and the counts at the end. The status is 0 if nothing is wrong.
+// Calls each function of crates/cesu8_c/chooser.c with stubs in place of the code for both levels.
+// tests/exports.sh compiles the chooser so that it calls `made_up_supports` to ask for the
+// processor's level. Each function must call the code for x86-64-v3 if the processor has that
+// level, and otherwise the code for x86-64-v2. Each argument must be passed unchanged, except for a
+// null pointer. The program prints what is wrong, and the counts at the end. The status is 0 if
+// nothing is wrong.
 //
 // With -DBEFORE_MAIN it is linked with the unmodified chooser, and calls it before any constructor has
 // asked for the processor's level: then the code for x86-64-v2 must be used.

@@ -2,12 +2,13 @@
 # Makes allocations of the built program fail, for every command.
 #
 # First each of its allocations fails in turn, until a run makes fewer. If an allocation for the
-# arguments fails, the program must report failed input or output, and if a later one fails, out of
-# memory. In both cases it must write nothing. The run without a failure must write its output. For
-# short inputs the allocations are counted too: besides those for the arguments, there is one for the
-# input, and one more if the output is built. For longer input, reading may make any number. If the
-# decoder rejects input after it allocated, it must have allocated the input's length, whatever the
-# damage and its offset. (For what is built, a clause states the capacity.)
+# arguments fails, the program must report failed input or output, as docs/PROGRAM.md says of status
+# 4, and if a later one fails, out of memory. In both cases it must write nothing. The run without a
+# failure must write its output. For short inputs the allocations are counted too: besides those for
+# the arguments, there is one for the input, and one more if the output is built. For longer input,
+# reading may make any number. If the decoder rejects input after it allocated, it must have
+# allocated the input's length, whatever the damage and its offset. (For what is built, a clause
+# states the capacity.)
 #
 # Then the memory of the process is limited, from too little for 10 MB of input to enough, for each
 # command. The program must write the whole output, or report out of memory and write nothing. Both must

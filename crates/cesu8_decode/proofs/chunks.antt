@@ -1,4 +1,5 @@
--- Text that is decoded or written chunk by chunk.
+-- Text that is decoded or written in parts: chunk by chunk, or first a prefix of whole characters.
+-- Also the length of such a prefix, by the classes of adjacent bytes and by masks.
 pub mod ReadChunks
 pub mod DecodedChunks
 pub mod WrittenChunks

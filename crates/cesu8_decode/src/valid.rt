@@ -36,7 +36,8 @@ pub fn valid_up_to_other<F: Flavor>(bytes: &[u8]) -> usize
     longest_prefix::<F, Encoded>(bytes)
 }
 
-/// Returns whether a byte is ill-formed. It stops soon after the first such byte.
+/// Returns whether a byte is ill-formed. It stops soon after the first such byte. No caller has
+/// short unchanged ASCII, so it does not test for that.
 #[inline(always)]
 pub fn is_ill_formed<F: Flavor>(bytes: &[u8]) -> bool
     ensures ill_formed { IsTrue result → HasNoStrictReading F.flavor bytes.now }

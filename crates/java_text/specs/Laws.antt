@@ -1,4 +1,5 @@
--- The laws of the form, in terms of the definitions alone.
+-- The laws of the form, in terms of the definitions alone. They are the contracts of the functions
+-- of src/laws.rt, which callers use in their proofs.
 use Rattle.std.specs.Prelude.{◌≡◌, ℕ, ◌+◌, ◌<◌, ◌≤◌, ◌↔◌, List, [], ◌∷◌, ◌++◌, length, slice_index}
 use Rattle.std.specs.List.{flat_map}
 use Rattle.simd_cesu8.specs.Text.{IsText}

@@ -10,6 +10,7 @@ use Rattle.java_text.specs.Laws.{BeginsWithForms, OneMore, NoneFollows, Bounds}
 use Rattle.uses.specs.StringFile.{NoneAreRead}
 
 -- The forms of some texts were read from the source and appended to the target. The rest is left.
+-- `left` shows that the count does not overflow: each form has at least two bytes.
 pub record CopiedSoFar (source rest before now : List ℕ) (count : ℕ) : Type 0 where
   pub texts : List (List ℕ)
   pub begins : BeginsWithForms source texts rest

@@ -1,4 +1,8 @@
--- What is known about the offsets of a window depends on its bytes there and a few more.
+-- What is known about the offsets of a window depends on its bytes there and a few more. The width
+-- at an offset depends on six bytes, the length of the longest character. `is_boundary_at`,
+-- `is_ill_formed_at` and `decoded_at` at offset i are about byte i + 5 of the window, because a
+-- character that begins up to five bytes before a byte can include it. They combine the widths at
+-- five or six offsets from i on, so they depend on ten or eleven bytes.
 use Rattle.std.proofs.Common.{◌≡◌, ℕ, zero, suc, ◌+◌, ◌<◌, ◌≤◌, List, ◌++◌, refl, sym, ap, ◌∙◌, arith, get_or, append_assoc, add-zero, zero-add, suc-add, length, drop, length-drop, get_or-drop, ◌∷◌}
 use Rattle.cesu8_text.specs.Encoding.{Flavor}
 use Rattle.cesu8_decode.specs.DecodedOffsets.{first_width, first_width_by, width_at, decoded_byte, decoded_at, decoded, is_ill_formed_at, ill_formed_by, saved, saved_between}

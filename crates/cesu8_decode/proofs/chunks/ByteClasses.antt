@@ -8,13 +8,15 @@ use Rattle.cesu8_bytes.specs.Pairs.{null_at}
 use Rattle.cesu8_decode.specs.DecodedOffsets.{continues}
 use Rattle.cesu8_decode.specs.Following.{CharacterSet, has_changed, first_low, pair_class}
 
--- Byte b begins a character after byte a, which is no lead byte.
+-- Byte b begins a character after byte a, which is no lead byte. A byte from C0 on that begins
+-- none, such as FF, is taken to begin one: the class of the byte after it has an error bit.
 pub record Begins (f : Flavor) (a b : ℕ) : Type 0 where
   pub no_lead : a < 0xC0
   pub no_continuation : continues b ≡ false
   pub no_null : is_null f b ≡ false
 
--- Byte b is the second byte of a character that byte a leads, or of a high surrogate.
+-- Byte b is the second byte of a character that byte a leads, or of a high surrogate if the set has
+-- surrogate pairs.
 pub record IsSecond (s : CharacterSet) (f : Flavor) (a b : ℕ) : Type 0 where
   pub leads : 0xC0 ≤ a
   pub fits : a < 0xF0
@@ -53,11 +55,12 @@ unfolding pair_class
 if_nothing s f a b is =
     ⊎_elim (λ (no_lead : a < 0xC0). inl (grind (arith, nat_tests))) (λ (leads : 0xC0 ≤ a). inr (second s f a b leads is)) (cases_lt a 0xC0)
 
--- A byte of class 80 is a continuation byte.
+-- A byte of class 80 (hexadecimal) is a continuation byte.
 pub if_third : (s : CharacterSet) (f : Flavor) (a b : ℕ) → pair_class s f a b ≡ 0x80 → continues b ≡ true
 unfolding pair_class
 if_third s f a b is = grind (arith, nat_tests)
 
--- A byte of class 20 is the second byte of a low surrogate.
+-- A byte of class 20 (hexadecimal) is the second byte of a low surrogate, or of any surrogate if
+-- the set has no surrogate pairs.
 pub if_low : (s : CharacterSet) (f : Flavor) (a b : ℕ) → pair_class s f a b ≡ 0x20 → (a ≡ 0xED) × (first_low s ≤ b) × (continues b ≡ true)
 if_low s f a b is = let found = (tests s f a b).0 is in grind (arith, nat_tests)

@@ -42,7 +42,8 @@ pub fn append_chunks<F: Flavor, S: Reading>(
 
 /// Appends the text of the next bytes. It appends zeros, overwrites them with the text, and
 /// truncates the rest. If the vector has less than `SMALL_STRICT` bytes of spare capacity, the text
-/// is written to an array and copied, since the pass also stores bytes after the text.
+/// is written to an array and copied, since the pass also stores bytes after the text. By `fits`
+/// the text fits the capacity, however many bytes the pass reads.
 #[inline(always)]
 fn append_next<F: Flavor>(
     bytes: &[u8],
@@ -84,8 +85,8 @@ pub fn append_by_call(bytes: &[u8], out: &mut Vec<u8>)
 
 /// Writes the lossily decoded text at the start of a slice that is long enough, and returns its
 /// length. The text is written to an array and copied, since the pass also stores bytes after it,
-/// and the rest of a caller's slice must be unchanged. It is not inlined: it has two callers, and
-/// only a call clears the array.
+/// and the rest of a caller's slice must be unchanged. It is not inlined, since it is called
+/// in two places, and so that only a call clears the array.
 #[inline(never)]
 pub fn put_chunks<F: Flavor>(bytes: &[u8], out: &mut [u8]) -> usize
     requires { lossy_length F.flavor bytes.now ≤ length out.old }

@@ -32,7 +32,8 @@ pub struct Window {
 }
 
 /// Returns the window of the characters that begin at the next `count` offsets. `at` is a character
-/// boundary.
+/// boundary. With at most `STEP` offsets these characters end within the 64 bytes. `count` may be
+/// up to 64 if the five bytes after these are zeros or missing.
 #[inline(always)]
 pub fn window_at<F: Flavor>(bytes: &[u8], at: usize, count: usize) -> Window
     requires bytes { at + LANES ≤ length bytes.now }

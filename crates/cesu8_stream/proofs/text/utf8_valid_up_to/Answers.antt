@@ -1,5 +1,5 @@
--- std's call returns the longest prefix that is UTF-8, so no character begins after it
--- (`utf8_stops`).
+-- `from_utf8` of `simdutf8` accepts the bytes, or returns an error with the length of the longest
+-- prefix that is UTF-8. No character begins after that prefix (`utf8_stops`).
 use Rattle.std.proofs.Common.{take}
 use Rattle.std.proofs.Math.Seq.{take-length}
 use Rattle.std.specs.Str.{chars}
