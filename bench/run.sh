@@ -47,8 +47,9 @@ while [ "$left" -gt 0 ]; do
     esac
 done
 
-# Proves and builds the archive for one processor level. Its functions are aligned to 32 bytes, as those
-# of the release are: otherwise the code before a function changes its time by up to a tenth.
+# Proves and builds the archive for one processor level, with as many jobs as PROOF_JOBS says, or
+# else as rt chooses. Its functions are aligned to 32 bytes, as those of the release are: otherwise
+# the code before a function changes its time by up to a tenth.
 build() {
     mkdir -p "$out/$1"
     if ! (cd "$crate" && rt lib --cpu "$1" ${PROOF_JOBS:+--jobs "$PROOF_JOBS"}) >"$out/$1/rt.log" 2>&1; then

@@ -89,6 +89,8 @@ void *memset(void *to, int byte, size_t length)
     return start;
 }
 
+// The old length is not known, so this copies as many bytes as the new length. What it reads after
+// the old bytes is arbitrary, but it is within `memory`.
 void *realloc(void *start, size_t length)
 {
     return memcpy(malloc(length), start, length);
@@ -451,6 +453,7 @@ static struct inputs inputs_of(const struct row *row)
                             malloc(3 * row->most), 3 * row->most,
                             malloc(row->count * sizeof *inputs.outcomes)};
     seed = row->most;
+    // The inputs begin at a page, so that their alignment does not depend on the rows before.
     taken = (taken + PAGE - 1) / PAGE * PAGE;
     uint8_t *bytes = malloc(row->count * row->most);
     for (size_t i = 0; i < row->count; i++) {

@@ -32,7 +32,9 @@ text_of() {
     "${size[@]}" "$program" | awk 'NR == 2 { print $1 }'
 }
 
-# Prints each call with the bytes that it adds, and `all` with those of all calls.
+# Prints each call with the bytes that it adds, and `all` with those of all calls. One object of the
+# archive has all these calls (chooser.c), so without --gc-sections a program that names one of them
+# has the code of all.
 code_of_calls() {
     local archive=$unpacked/lib/libcesu8.a call base
     base=$(text_of 0) || exit 2

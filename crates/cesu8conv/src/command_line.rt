@@ -7,7 +7,7 @@ use clap::error::ErrorKind;
 use clap::{Arg, ArgAction, ArgMatches, Command, Error};
 use std::alloc::{AllocError, Global};
 
-/// The version that `--version` prints, as in the file VERSION.
+/// The version that `--version` prints: that of the file VERSION, as `tests/cesu8conv.sh` tests.
 const VERSION: &str = "1.0.0";
 
 /// The commands, with what help says of them.
@@ -23,7 +23,7 @@ pub fn commands<'a>() -> [PossibleValue<'a>; 5] {
     ]
 }
 
-/// The encodings, with what help says of them.
+/// The encodings, with what help says of them, and other words for each, which `main.rt` gives.
 pub fn flavors<'a>(cesu8: &'a [&'a str], mutf8: &'a [&'a str]) -> [PossibleValue<'a>; 2] {
     [
         PossibleValue::new("cesu8").help("CESU-8").aliases(cesu8),
@@ -99,7 +99,8 @@ fn flag<'a>(alloc: Global, name: &'a str, help: &'a str) -> Arg<'a> {
         .help(help)
 }
 
-/// Reads the options of the matches.
+/// Returns the options of the matches, or `None` if there is a `--lossy` that the command does not
+/// have. The command line already requires COMMAND and FLAVOR. The caller reads FILE.
 pub fn options_of<'a>(matches: &ArgMatches<'a>) -> Option<Options<'a>> {
     let flavor = flavor_of(matches.get_str("FLAVOR")?);
     Some(Options {
@@ -115,7 +116,8 @@ pub fn options_of<'a>(matches: &ArgMatches<'a>) -> Option<Options<'a>> {
     })
 }
 
-/// The encoding of a word that the command line takes: those of CESU-8 alone have a `c`.
+/// The encoding of a word that the command line accepts: only the words for CESU-8 begin with `c`,
+/// and this is true of the words from `main.rt` too.
 fn flavor_of(word: &str) -> FlavorWord {
     match word.as_bytes() {
         [b'c' | b'C', ..] => FlavorWord::Cesu8,
@@ -123,8 +125,9 @@ fn flavor_of(word: &str) -> FlavorWord {
     }
 }
 
-/// The task of a command, or `None` if it has no option `--lossy`. The first letters of the
-/// commands differ, and the command line accepts no other words.
+/// The task of a command, or `None` if `--lossy` is given and the command does not have it. The
+/// first letters of the commands differ. The command line accepts no other words, so a word with
+/// none of the first four letters is `check`.
 fn task_of(word: &str, flavor: FlavorWord, is_lossy: bool) -> Option<Task> {
     let conversion = match (word.as_bytes(), is_lossy) {
         ([b'e' | b'E', ..], false) => Conversion::Encode(flavor),

@@ -264,6 +264,7 @@ pub fn valid_up_to(bytes: &[u8]) -> usize
 /// assert_eq!(rt; simd_cesu8::mutf8::encode_to_slice("a\0", &mut buf)?, 3);
 /// assert_eq!(rt; buf.as_slice(), b"a\xC0\x80\xEE".as_slice());
 /// ```
+// Inlined, as are the calls below. The crate root says why, at its call of the same name.
 #[inline(always)]
 pub fn encode_to_slice(value: &str, buf: &mut [u8]) -> Result<usize, TooShort>
     ensures { WritesAnswer (encoding Mutf8 (chars value.now)) result buf.old buf.new }

@@ -6,7 +6,8 @@ use Rattle.std.proofs.lemmas.Bool.{iff_false, false≢true}
 use Rattle.std.proofs.lemmas.List.{take-append-drop, drop-drop}
 use Rattle.cesu8_text.proofs.lists.Elements.{any_nil, any_here, any_there, any_cons, any_left, any_right, any_append}
 
--- By induction over the number of chunks.
+-- P holds of an element of a list if and only if it holds of one in the first k chunks of n
+-- elements or after these m elements. By induction over the number of chunks.
 cut : {X : Type 0} (P : X → Type 0) (n k m : ℕ) (xs : List X) → m ≡ k * n → Any P xs ↔ (Any (Any P) (first_chunks n k xs) ⊎ Any P (drop m xs))
 cut P n zero m xs e =
     let none : m ≡ 0 = omega arith in

@@ -1,4 +1,6 @@
--- What decoding writes for the events of a window and for the bytes between them.
+-- What decoding writes for the events of a window and for the bytes between them. An event is a
+-- surrogate pair, C0 80 in MUTF-8, or an ill-formed byte. A window of events is at most 64 of the
+-- bytes, but `window_of bytes` is all of them, with five zeros before them.
 use Rattle.std.proofs.Common.{◌≡◌, ℕ, zero, suc, ◌+◌, ◌-◌, ◌*◌, ◌<◌, ◌≤◌, ⊎_elim, Bool, cond, true, false, ◌&&◌, eqb, List, [], ◌∷◌, ◌++◌, refl, sym, ap, ◌∙◌, arith, length, take, drop, get_or, replicate, length-drop, get_or-drop, add-zero, zero-add, suc-add, append_assoc, length-append, subst}
 use Rattle.std.proofs.Math.Seq.{drop-cons, take-append_seam}
 use Rattle.std.proofs.lemmas.Bool.{agree_below_at, cases_lt, cases_eq, eqb-true, ne_eqb}
@@ -102,6 +104,8 @@ module _ (f : Flavor) (bytes : List ℕ) where
         ap (λ v. eqb v 6) (ap w there ∙ width_there f bytes (q - 5)) ∙ pairs (q - 5) (omega arith) (omega arith))
         (cases_lt q (at + 5))
 
+    -- If no C0 80 begins at a byte after the boundary, the byte begins no character of two bytes
+    -- with C0. Neither does the last byte before the boundary, since no character crosses it.
     no_null_at : (q : ℕ) → at + 4 ≤ q → (at + 5 ≤ q → is_null_at f bytes (q - 5) ≡ false) → (eqb (w q) 2 && eqb (b q) 0xC0) ≡ false
     no_null_at q low null =
         ⊎_elim (λ (early : q < at + 5).

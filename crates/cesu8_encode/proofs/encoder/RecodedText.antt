@@ -57,7 +57,8 @@ by_offsets f x y (b ∷ bytes) =
 pub or_zero : (a : ℕ) → bit_or a 0 ≡ a
 or_zero a = omega (arith, or_add_and a 0, and_zero_r a)
 
--- If neither the byte nor the two before it lead four bytes, the byte is encoded as a code unit is.
+-- If neither the byte nor the two before it lead four bytes, the byte is unchanged, except that
+-- MUTF-8 writes 0 as C0 80. `short_form` is used here for bytes from 80 (hexadecimal) on too.
 plain : (f : Flavor) (x y b n : ℕ) → x < 0xF0 → y < 0xF0 → b < 0xF0 → encoded_byte f x y b n ≡ short_form f b
 plain f x y b n hx hy hb = grind (arith, nat_tests, common_steps, cases_eq, lt-leb, ne_eqb, or_zero)
 

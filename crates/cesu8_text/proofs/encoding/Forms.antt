@@ -28,6 +28,7 @@ encoding_pair f c w x y z digits = grind (arith, nat_tests)
 pub short_form_null : (u : ℕ) → u ≡ 0 → short_form Mutf8 u ≡ 0xC0 ∷ 0x80 ∷ []
 short_form_null u e = rw e refl
 
--- Every other code unit below 80 (hexadecimal) is encoded as itself.
+-- For every other number, `short_form` is that number alone. `form` uses it only for code units
+-- below 80 (hexadecimal), but the proofs of what is written for a byte use it for any byte.
 pub short_form_other : (f : Flavor) (u : ℕ) → (u ≡ 0 → ⊥) → short_form f u ≡ u ∷ []
 short_form_other f u other = grind (arith, nat_tests)

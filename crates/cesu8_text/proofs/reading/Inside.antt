@@ -1,5 +1,5 @@
--- No encoded character begins inside another, because none begins with a byte that can follow the
--- first.
+-- No encoded character begins inside another, because none begins with what can follow the first
+-- byte of one: a continuation byte, or ED and the second byte of a low surrogate.
 use Rattle.std.proofs.lemmas.Bool.Decides.{nat_tests}
 use Rattle.std.proofs.lemmas.Grind.{common_steps}
 use Rattle.std.proofs.Common.{◌≡◌, ℕ, suc, ◌<◌, ◌≤◌, ◌⊎◌, List, arith, drop, get_or}
@@ -24,7 +24,7 @@ inner_at : (f : Flavor) (bytes : List ℕ) (c j : ℕ) (rest : List ℕ) → Beg
 unfolding encoding form units_of
 inner_at f bytes c j rest begins later inside = grind (arith, nat_tests)
 
--- If a character begins the bytes, none begins at a later offset of its stretch.
+-- If a character begins the bytes, none begins at a later offset of that character.
 pub none_inside : (f : Flavor) (bytes : List ℕ) (c d j : ℕ) (rest : List ℕ) → BeginsWith f bytes c rest → StandsAt f bytes j d →
     0 < j → j < width f c → ⊥
 none_inside f bytes c d j rest begins stands later inside =

@@ -32,7 +32,7 @@ fn surround(
 }
 
 /// Decodes a damaged byte, letters, these bytes and letters in one piece, and compares all that the
-/// calls write.
+/// calls write. All of it fits in the buffer, so a right decoder needs one call; eight are allowed.
 fn assert_surrounded(rt: &impl Abort, alloc: Global, is_mutf8: bool, [bytes, text]: [&[u8]; 2]) {
     for count in FRONTS {
         let whole = surround(alloc, b"\xFF", count, bytes).expect(rt, "input");

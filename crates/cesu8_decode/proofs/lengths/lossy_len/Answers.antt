@@ -1,5 +1,6 @@
 -- The lossy reading has three bytes for each byte, less what all offsets save
--- (`lossy_length_by_savings`), so no subtraction is below 0.
+-- (`lossy_length_by_savings`), so no subtraction is below 0. Each round of the loop subtracts what
+-- 59 offsets save (`STEP`): no character that begins there ends after the 64 bytes that it loads.
 use Rattle.std.proofs.Common.{◌≡◌, ◌-◌, ◌∙◌, ap, arith, length, drop}
 use Rattle.cesu8_decode.specs.DecodedOffsets.{total_saved}
 use Rattle.cesu8_decode.proofs.by_offset.Savings.{lossy_length_by_savings, length_given}

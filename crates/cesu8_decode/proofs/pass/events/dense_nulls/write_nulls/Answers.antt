@@ -1,5 +1,6 @@
--- For the bytes of the window each round writes their text. The bytes after the window, up to the
--- 64th, are one byte each, which the function subtracts.
+-- For the bytes of the window each round writes their text. Of the bytes after the window, up to
+-- the 64th, none is left out, so one byte is stored for each. The function subtracts their number
+-- from the end.
 use Rattle.std.proofs.Common.{◌≤◌, ◌+◌, arith, refl}
 use Rattle.cesu8_decode.proofs.decoder.EventsPacked.{none_stored, stored_most, stored_after, stored_text, nulls_packed, block_stored}
 use Rattle.cesu8_decode.proofs.pass.events.dense_nulls.write_nulls.Goals as goal
