@@ -110,7 +110,7 @@ of_cesu8() {
 # Keeps the items that must exist for MUTF-8 too: those that name an encoding, and those that FILE
 # has for MUTF-8: `of_encodings FILE`.
 of_encodings() {
-    awk -F '\t' 'FNR == NR { is_in_mutf8[$2]; next } $2 in is_in_mutf8 || /Cesu8/' "$1" -
+    awk -F '\t' 'FNR == NR { is_in_mutf8[$2]; next } $2 in is_in_mutf8 || /Cesu8|Mutf8/' "$1" -
 }
 
 # Notes the lines in which two files differ: `same WHAT FILE FILE`.

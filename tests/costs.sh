@@ -90,7 +90,7 @@ simulate() {
 # Prints the single calls at a level, each with its cost and what was counted separately.
 cost_of_calls() {
     simulate "$1" '--zero-before=begin_counting --dump-before=end_counting' ../costs || return
-    # Behind the last call is the end of the program.
+    # After the last call comes the end of the program.
     awk -v library=measured.so -v driver=costs -f "$top/tests/costs.awk" "$scratch/counts" |
         head -n -1 | paste -d ' ' "$scratch/printed" - |
         awk -v level="$1" '{ printf "%s %s %.1f %.1f\n", $1, level, $3 / $2, $4 / $2 }'

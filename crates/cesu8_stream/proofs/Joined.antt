@@ -54,8 +54,3 @@ pub nothing : (from to : List ℕ → List ℕ) (bytes old new : List ℕ) → f
 nothing from to bytes old new from_empty to_empty same =
     ([], (tt, from_empty), (rw to_empty refl, rw (to_empty, same) refl))
 
--- A call that converts the whole of `part` reads n bytes, if `part` is the first n of the bytes.
-pub of_whole : (from to : List ℕ → List ℕ) (bytes part old new : List ℕ) (n w : ℕ) → part ≡ take n bytes →
-    (text : List ℕ) × IsWritten from part text × StandsAtFront (to text) w old new →
-    Converts from to bytes n w old new
-of_whole from to bytes part old new n w is found = (found.0, (found.1.0, found.1.1 ∙ is), found.2)

@@ -1,5 +1,5 @@
--- std's tests for UTF-8, in the terms of streams: which text the bytes are, and that no character
--- begins after the longest valid prefix.
+-- The tests of `simdutf8` for UTF-8, in the terms of streams: which text the bytes are, and that no
+-- character begins after the longest valid prefix.
 use Rattle.std.proofs.Common.{◌≡◌, ℕ, ◌+◌, List, [], ◌∷◌, ◌++◌, sym, ap, ◌∙◌, arith, length, take, drop}
 use Rattle.std.proofs.lemmas.Grind.{flat_map-append}
 use Rattle.std.specs.Str.{chars, IsValidUpTo}
