@@ -12,8 +12,7 @@
 //! | none | does any byte change in the encoding? | encoding |
 //!
 //! "Unchanged" means that the byte is the same in UTF-8 and in the encoding: in CESU-8 all ASCII
-//! is, in MUTF-8 all but 00. Encoding also chooses by length, up to a block: `cesu8_encode` does
-//! that.
+//! is, in MUTF-8 all but 00. `cesu8_encode` also chooses by length, up to a block.
 
 ghost use Rattle.std.specs.Prelude.{◌↔◌, IsTrue, Any, take};
 ghost use Rattle.std.specs.Str.{chars, IsAscii};
@@ -66,8 +65,7 @@ pub fn is_short_unchanged_ascii<F: Flavor>(bytes: &[u8]) -> bool
 fn any_in_vectors<C: InAllVectors + InGroups>(bytes: &[u8]) -> bool
     ensures { IsTrue result ↔ AnyIn C.class bytes.now }
 {
-    // The tests of the length have the order of those in `copy_short`, so that the compiler joins
-    // them if a copy follows.
+    // The lengths are tested in the order of `copy_short`, so a copy that follows shares the tests.
     if are_short(bytes) {
         return any_in_bytes::<C>(bytes);
     }

@@ -12,8 +12,7 @@ use std::simd::prelude::*;
 
 /// An encoding: CESU-8 or MUTF-8.
 pub trait Flavor {
-    /// The bytes 00 that are encoded as C0 80: none in CESU-8. `lengths` counts them, and `search`
-    /// finds them.
+    /// The bytes 00 that become C0 80: none in CESU-8. `lengths` counts and `search` finds them.
     type Null: CountsOne + InGroups;
 
     ghost flavor: { AnyFlavor };

@@ -31,8 +31,7 @@ pub fn encoded_len_by_need<F: Flavor>(text: &str) -> usize
     encoded_len::<F>(text)
 }
 
-/// Returns the number of UTF-16 code units of a string: two for each four-byte character, and one
-/// for each other character.
+/// Returns the number of UTF-16 code units of a string: two for a four-byte character, else one.
 #[inline(always)]
 #[tactic(auto, using(cesu8_text::proofs::encoding::UnitCount::units_by_bytes))]
 pub fn utf16_len(text: &str) -> usize

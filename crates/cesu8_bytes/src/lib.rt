@@ -17,6 +17,5 @@ pub mod writing; // copying, packing and appending bytes
 /// The bytes of a block, the lanes of a `u8x32`. Types, shuffles and proofs assume this 32 too.
 pub const BLOCK: usize = 32;
 
-/// A table of 256 shuffles of 16 lanes (4 KiB). The eight bits of an index say what becomes of each
-/// of eight bytes.
+/// 256 shuffles of 16 lanes (4 KiB). The eight bits of an index say what becomes of eight bytes.
 pub type Rows = [[u8; 16]; 256];

@@ -47,8 +47,7 @@ fn first_difference(bytes: &[u8], other: &[u8], len: usize) -> usize
     }
 }
 
-/// Like `first_difference`, by vectors of `N` bytes. The last one ends at `len`, and may overlap
-/// the one before it.
+/// Like `first_difference`, by vectors of `N` bytes. The last one ends at `len` and may overlap.
 #[inline(always)]
 fn difference_by<const N: usize>(bytes: &[u8], other: &[u8], len: usize) -> usize
     requires lanes { (0 < N) × (N ≤ LANES) × (N ≤ len) }

@@ -1,5 +1,4 @@
-//! Recognizes an encoded surrogate pair and converts it to UTF-8, eight bytes at a time as one
-//! word.
+//! Recognizes an encoded surrogate pair and converts it to UTF-8, with eight bytes as one word.
 
 ghost use Rattle.std.specs.Prelude.{◌≡◌, ◌+◌, ◌*◌, ◌≤◌, ◌↔◌, length, slice_index, IsTrue};
 ghost use Rattle.cesu8_bytes.specs.Pairs.{HasPair, IsUtf8OfDigits, second_third_fifth_sixth, word_of};
@@ -36,8 +35,7 @@ pub fn utf8_of_pair(bytes: &[u8]) -> [u8; PAIR_UTF8]
     // Adds the plane offset 10000 to the character: one more in the last four bits of the second
     // byte. In a pair that byte is below B0, so nothing is carried.
     let word = first_word(bytes).wrapping_add(0x100);
-    // The leading bits of the four bytes, F0 80 80 80. Each term moves some digits into their
-    // places.
+    // The leading bits of the four bytes, F0 80 80 80. Each term moves some digits to their places.
     let utf8 = 0x8080_80F0
         + (word >> 10 & 0x0000_0F07)
         + ((word & 0x0003_0300) << 4)

@@ -19,8 +19,7 @@ pub trait Reading {
     /// Strict or lossy, as a value.
     ghost which: { Strictness };
 
-    /// The error of strict decoding. For lossy decoding this type has no value, since that cannot
-    /// fail.
+    /// The error of strict decoding. In lossy decoding, which cannot fail, this type has no value.
     type Error: Drop;
 
     /// Returns strict or lossy, as a value.

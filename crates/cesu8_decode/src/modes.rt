@@ -1,9 +1,8 @@
 //! The modes of decoding: `Lenient` returns input unchanged if it is UTF-8, and `EncodingAlone` only
 //! if it is UTF-8 in which nothing needs conversion.
 //!
-//! A public call has the mode as a type, so that its fast path is compiled for that mode. What is
-//! called after a fast path does not depend on the mode, or gets it as a value, so that one function
-//! serves both modes.
+//! A public call has the mode as a type, so that its fast path is compiled for that mode. Functions
+//! called after it do not depend on the mode, or get it as a value, so that one serves both modes.
 //!
 //! `prefix_unless_kept` decides whether a call returns its input unchanged. If not, it returns the
 //! unchanged prefix, with which decoding begins.
@@ -29,8 +28,7 @@ pub enum Mode {
     EncodingAlone,
 }
 
-/// A mode, as a type: `EncodingAlone` for calls with `strict` in their names, and `Lenient` for the
-/// others.
+/// A mode, as a type: `EncodingAlone` for calls with `strict` in their names, else `Lenient`.
 pub trait Accepts {
     ghost mode: { AnyMode };
 
@@ -78,9 +76,8 @@ impl Accepts for EncodingAlone {
     }
 }
 
-/// Returns `None` if mode `A` returns the input unchanged. Otherwise returns the unchanged prefix,
-/// which is not the whole input. For at most 64 bytes it also says which characters need
-/// conversion.
+/// Returns `None` if mode `A` returns the input unchanged, and otherwise the unchanged prefix,
+/// which is not all of it. For at most 64 bytes it also says which characters need conversion.
 #[inline(always)]
 pub fn prefix_unless_kept<F: Flavor, A: Accepts>(bytes: &[u8]) -> Option<UnchangedPrefix>
     ensures kept { IfNone result (Keeps A.mode F.flavor bytes.now) }
@@ -97,8 +94,7 @@ pub fn prefix_unless_kept<F: Flavor, A: Accepts>(bytes: &[u8]) -> Option<Unchang
     Some(prefix)
 }
 
-/// Returns the whole input if the mode returns it unchanged, and otherwise `prefix`, its unchanged
-/// prefix.
+/// Returns the whole input if the mode returns it unchanged, and otherwise its unchanged `prefix`.
 #[inline(always)]
 pub fn prefix_in_mode<F: Flavor>(
     bytes: &[u8],
@@ -120,8 +116,7 @@ fn lenient_prefix<F: Flavor>(bytes: &[u8], prefix: UnchangedPrefix) -> Unchanged
     requires { IsUnchangedPrefix F.flavor bytes.now prefix }
     ensures { IsPrefixUnlessKept F.flavor (IsUtf8 bytes.now) bytes.now result }
 {
-    // If the input is UTF-8, the byte after the unchanged prefix begins a character of four bytes
-    // or is 00.
+    // If the input is UTF-8, a character of four bytes or the byte 00 follows the unchanged prefix.
     if prefix.len == bytes.len() || !matches!(bytes[prefix.len], 0 | 0xF0..=0xF7) {
         return prefix;
     }
@@ -136,8 +131,7 @@ fn all_if_utf8(bytes: &[u8], prefix: UnchangedPrefix) -> UnchangedPrefix
     ensures { ((result.len ≡ length bytes.now) × IsUtf8 bytes.now)
         ⊎ ((result ≡ prefix) × ¬ (IsUtf8 bytes.now)) }
 {
-    // At most 64 bytes are tested from the start, which takes no longer, so that no branch depends
-    // on the prefix.
+    // At most 64 bytes are tested from the start: as fast, and no branch depends on the prefix.
     let start = if are_short(bytes) { 0 } else { prefix.len };
     if !is_utf8_by_parts(&bytes[start..]) {
         return prefix;

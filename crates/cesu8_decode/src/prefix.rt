@@ -132,8 +132,7 @@ fn last_boundary<F: Flavor, S: CharacterSet>(bytes: &[u8], at: usize) -> usize
     if at == 0 {
         return at;
     }
-    // If only one byte precedes `at`, it is loaded twice. The second test is reached only if it is
-    // no lead byte.
+    // If only one byte precedes `at`, it is loaded twice. The second test then finds no lead byte.
     let last = bytes[at - 1];
     let second = bytes[at.max(2) - 2];
     if last >= 0xC0 {
@@ -145,8 +144,7 @@ fn last_boundary<F: Flavor, S: CharacterSet>(bytes: &[u8], at: usize) -> usize
     }
 }
 
-/// Like `last_boundary`, for a set with surrogate pairs: tests one offset after another, from `at`
-/// back.
+/// Like `last_boundary`, for a set with surrogate pairs: tests each offset from `at` backwards.
 #[inline(always)]
 fn last_uncrossed<F: Flavor, S: CharacterSet>(bytes: &[u8], at: usize) -> usize
     requires { FollowUpTo S.set F.flavor bytes.now at }
@@ -159,8 +157,7 @@ fn last_uncrossed<F: Flavor, S: CharacterSet>(bytes: &[u8], at: usize) -> usize
     end
 }
 
-/// Returns whether a character or a surrogate pair can cross an offset, judged by the four bytes
-/// before it.
+/// Returns whether a character or surrogate pair can cross an offset, by the four bytes before it.
 #[inline(always)]
 pub fn may_be_crossed<S: CharacterSet>(bytes: &[u8], at: usize) -> bool
     requires { at ≤ length bytes.now }

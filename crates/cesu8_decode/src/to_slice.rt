@@ -1,5 +1,4 @@
-//! Decodes to a caller's slice. Input that the mode returns unchanged is copied, and other input is
-//! decoded.
+//! Decodes to a caller's slice, or copies to it input that the mode returns unchanged.
 
 ghost use Rattle.cesu8_decode.specs.Modes.{Reads, ReadsLossily};
 ghost use Rattle.cesu8_decode.specs.PutReadings.{PutsText, ReadsAs};
@@ -41,8 +40,7 @@ fn decode_other_to_slice<F: Flavor, S: Reading>(
     ensures { PutsText S.which (ReadsAs S.which (Reads mode F.flavor bytes.now)
         (ReadsLossily mode F.flavor bytes.now)) result buf.old buf.new }
 {
-    // Both modes return input unchanged in which nothing needs conversion, so the mode is tested
-    // after that.
+    // Both modes return input unchanged in which nothing needs conversion, so this is tested first.
     let unchanged = unchanged_prefix::<F>(bytes);
     if unchanged.len == bytes.len() {
         return copy_to_slice(bytes, buf).map_err(WriteError::NoRoom);

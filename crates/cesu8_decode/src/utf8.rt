@@ -55,8 +55,7 @@ fn are_parts_utf8(bytes: &[u8]) -> bool
     true
 }
 
-/// Returns the end of a part that has at most `most` bytes. In UTF-8 the end is a character
-/// boundary.
+/// Returns the end of a part of at most `most` bytes. In UTF-8 it is a character boundary.
 #[inline(always)]
 fn part_end(bytes: &[u8], start: usize, most: usize) -> usize
     requires start { start < length bytes.now }
@@ -72,8 +71,7 @@ fn part_end(bytes: &[u8], start: usize, most: usize) -> usize
 }
 
 /// Returns the offset of the first byte of the character that has a byte at `at`, if the bytes are
-/// UTF-8. It is at most three bytes back, since no more than three continuation bytes follow each
-/// other.
+/// UTF-8. It is at most three bytes back, since a character has at most three continuation bytes.
 #[inline(always)]
 fn character_start(bytes: &[u8], at: usize) -> usize
     requires { (3 ≤ at) × (at < length bytes.now) }
@@ -108,8 +106,7 @@ fn is_part_utf8(bytes: &[u8]) -> bool
     is_end_utf8(checker, &bytes[at..])
 }
 
-/// Returns whether the bytes that a checker has read and the rest, at most 64 bytes, are UTF-8
-/// together.
+/// Returns whether a checker's bytes and the rest, at most 64 bytes, are UTF-8 together.
 #[inline(always)]
 fn is_end_utf8(checker: Checker, rest: &[u8]) -> bool
     requires { length rest.now ≤ LANES }

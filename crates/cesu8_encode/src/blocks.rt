@@ -111,13 +111,11 @@ fn encode_block<F: Flavor>(window: &[u8], at: usize) -> EncodedBlock
     // The last four bits of each byte and two bits of the next one.
     let six_bits = ((bytes << u8x32::splat(2)) & u8x32::splat(0x3C))
         | ((next >> u8x32::splat(4)) & u8x32::splat(0x03));
-    // For a lead byte, 9F instead of 80: A0, the least second byte of a pair, less the plane
-    // offset.
+    // For a lead byte, 9F instead of 80: A0, a pair's least second byte, less the plane offset.
     let of_high = six_bits.strict_add(u8x32::splat(0x80) | (lead & u8x32::splat(0x1F)));
     let other = bytes | (lead_two_before & u8x32::splat(0x30)) | (null & u8x32::splat(0x80));
     let is_of_high = lead | lead_before;
-    // No byte is both a lead and a null, so a sum joins the two tests. With `|` the compiler would
-    // add a third test.
+    // No byte is both lead and null, so a sum joins the tests. `|` would add a third test.
     let doubled = lead.strict_add(null) | lead_two_before;
     EncodedBlock {
         seconds: is_of_high.simd_eq(u8x32::splat(0)).select(other, of_high),
@@ -146,8 +144,7 @@ fn store_row(lanes: u8x16, doubled: usize, out: &mut [u8], at: usize) -> usize
 
 /// Writes what the lanes say for the first `count` bytes of a block, and returns its end.
 ///
-/// If the four rows fit, they are stored whole, and the next block overwrites what lies after the
-/// end.
+/// If the four rows fit, they are stored whole, and the next block overwrites the excess.
 #[inline(always)]
 fn write_lanes(block: &EncodedBlock, count: usize, out: &mut [u8], end: usize) -> usize
     requires count { count ≤ BLOCK }

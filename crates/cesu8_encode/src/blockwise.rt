@@ -1,8 +1,7 @@
 //! Encodes a string block by block, to a slice that is long enough.
 //!
 //! A block is read together with the bytes around it, since what is written for a byte depends on
-//! its neighbours. At the start and the end of the string, an array of zeros supplies the missing
-//! neighbours.
+//! its neighbours. At both ends of the string, an array of zeros supplies the missing neighbours.
 
 ghost use Rattle.std.specs.Prelude.{◌+◌, ◌*◌, ◌<◌, ◌≤◌, length};
 ghost use Rattle.std.specs.Str.{chars};
@@ -18,9 +17,8 @@ use cesu8_bytes::flavor::Flavor;
 use cesu8_bytes::lanes::short::copy_short;
 
 /// Writes the encoding of a string, and returns its length. `more` is the number of bytes by which
-/// the encoding is longer than the string, or 0 if that is not known. The function is inlined: if
-/// the slice is an array on the stack, the compiler removes the test whether the rows of a block
-/// fit.
+/// the encoding is longer than the string, or 0 if that is not known. The function is inlined: for
+/// an array on the stack, the compiler removes the test whether the rows of a block fit.
 #[inline(always)]
 pub fn write<F: Flavor>(text: &str, more: usize, out: &mut [u8]) -> usize
     requires { length (encoding F.flavor (chars text.now)) ≤ length out.old }
@@ -35,8 +33,7 @@ pub fn write<F: Flavor>(text: &str, more: usize, out: &mut [u8]) -> usize
     write_block::<F>(&window, 0, bytes.len(), out, 0)
 }
 
-/// Like `write`, for a string of more than a block. Which strategy encodes the blocks depends on
-/// `more`, for speed only.
+/// Like `write`, for more than a block. `more` only decides which strategy encodes the blocks.
 #[inline(never)]
 pub fn write_blocks<F: Flavor>(text: &str, more: usize, out: &mut [u8]) -> usize
     requires long { BLOCK < length text.now }

@@ -95,8 +95,7 @@ pub fn encode_into<F: Flavor>(text: &str, len: usize, out: &mut Vec<u8>) -> Resu
 {
     make_room(len, out)?;
     if len == text.len() {
-        // If the encoding is as long as the UTF-8, it equals the UTF-8: any other encoding is
-        // longer.
+        // An encoding as long as the UTF-8 equals the UTF-8: any other one is longer.
         append(text.as_bytes(), out);
     } else {
         append_changed::<F>(text, len, out);

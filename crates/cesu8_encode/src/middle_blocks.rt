@@ -33,8 +33,7 @@ pub struct AnyChange;
 /// Encodes null characters only. No other byte changes, since no byte is F0 or more (hexadecimal).
 pub struct NullChange;
 
-/// Copies a block if no byte of it changes, nor one of the two before it. Most text has runs of
-/// these.
+/// Copies a block if neither it nor the two bytes before it change. Most text has runs of these.
 pub struct CopyUnchanged;
 
 impl BlockWriter for AnyChange {

@@ -5,15 +5,12 @@
 //! An encoding is at most twice as long as the string. So `encode` writes the encoding of at most
 //! 128 bytes to the stack before its length is known, and copies it: counting first takes longer.
 //! At most a block goes to an array of 64 bytes, since a larger one takes longer to zero. Longer
-//! strings are counted, and encoded in place. So is every string whose encoding has a known length
-//! (`encode_into`).
+//! strings, and those whose encoding has a known length (`encode_into`), are encoded in place.
 //!
-//! To a caller's slice, more than a block is counted, and encoded in place. At most a block is
-//! encoded to the stack and copied: its rows are stored whole, and the slice after the encoding
-//! must not change.
+//! To a caller's slice, more than a block is counted, and encoded in place. At most a block goes
+//! through the stack: rows are stored whole, and the slice after the encoding must not change.
 //!
-//! These strategies are tests and no enum: computing the value of one cost `encode` 13
-//! instructions.
+//! These strategies are tests and no enum: computing one cost `encode` 13 instructions.
 //!
 //! The blocks between the first and the last have bytes of the string on both sides. How these are
 //! encoded depends on the growth: how many bytes longer than the string the encoding is. The first
@@ -39,8 +36,7 @@
 //! | `AnyChange`     | 512 bytes or more: a pair in 20 to 50 bytes, or characters of all widths |
 //! | `CopyUnchanged` | a pair in 300 bytes or more                                              |
 //!
-//! Other thresholds are in `cesu8_bytes`: the widths of vectors, and the fast paths of
-//! `fast_paths`.
+//! Other thresholds are in `cesu8_bytes`: the widths of vectors, and those of `fast_paths`.
 
 ghost use Rattle.std.specs.Prelude.{◌≤◌, ◌↔◌, length, IsTrue};
 ghost use Rattle.cesu8_encode.specs.Strategies.{FitsMiddle};

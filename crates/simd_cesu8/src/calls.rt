@@ -1,5 +1,4 @@
-//! The calls for both flavors. Each borrows the input if no byte changes, and builds the result
-//! otherwise.
+//! The calls for both flavors. Each borrows the input if no byte changes, or builds the result.
 //!
 //! Decoding first finds how many bytes at the start are the same in UTF-8. A call borrows if these
 //! are all bytes, and otherwise decodes the rest. The mode is a type parameter: `EncodingAlone`

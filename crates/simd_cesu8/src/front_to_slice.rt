@@ -3,8 +3,7 @@
 //!
 //! The fast path loads 64 bytes of the input as one vector. If the string's bytes in it are
 //! unchanged ASCII, it replaces the first `len` lanes of the buffer's first 64 bytes by them, and
-//! stores these 64 bytes. So the rest of the buffer is unchanged, and no branch depends on the
-//! string's length.
+//! stores these 64 bytes. The rest of the buffer is unchanged, and no branch depends on the length.
 
 ghost use Rattle.std.specs.Prelude.{◌≡◌, ◌++◌, ◌≤◌, false, IsTrue, length, take, drop};
 ghost use Rattle.simd_cesu8.specs.Class.{IsUnchangedUtf8};
@@ -25,8 +24,7 @@ const NUMBERS: [u8; LANES] = [
     50, 51, 52, 53, 54, 55, 56, 57, 58, 59, 60, 61, 62, 63,
 ];
 
-/// Decodes the first `len` bytes strictly, or all bytes if there are fewer, and writes the text's
-/// UTF-8 to the buffer.
+/// Strictly decodes the first `len` bytes, or all bytes if there are fewer, to the buffer.
 #[inline(always)]
 pub fn decode_strict_front_to_slice<F: Flavor>(
     bytes: &[u8],

@@ -12,8 +12,7 @@ use crate::error::DecodeSliceFault;
 use crate::front_to_slice;
 pub use cesu8_bytes::implementation::{active, fallback, simd, word};
 
-/// Returns the bytes as a string if they are UTF-8. It tests them as the calls that decode do, and
-/// allocates nothing.
+/// Returns the bytes as a string if they are UTF-8, tested as `decode` does. It allocates nothing.
 ///
 /// ```rust
 /// use simd_cesu8::implementation;

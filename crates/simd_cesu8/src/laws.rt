@@ -1,6 +1,5 @@
 //! The laws of both encodings. Each function does nothing: its contract is the law, for every text
-//! and every list of bytes, in both flavors. docs/DEFINITIONS.md defines stretch, mark, cutting and
-//! cost, with an example.
+//! and all bytes, in both flavors. docs/DEFINITIONS.md defines stretch, mark, cutting and cost.
 
 ghost use Rattle.simd_cesu8.specs.Laws.{RoundTrip, CharsAreText, CharsInUtf8, SameBytes, TextIsString, CharsOfUtf8, DecodedBack, NotRefused, EncodedBack, Concat, SameText, Needs, UnchangedEncoding, UnchangedString, NoZero, Bounds, NoOverlap, OneMark, Places, HasGreedyCutting, Fewest, ReadingIsText, ReadingOfEncoding, ReadAgain, LossyIsStrict, NothingReplaced, Split, HalvesJoin, Around, Middle, Trichotomy, Transitivity, SliceOrder, OrderInCesu8, KeyOrder, OrderInMutf8, NullOutOfOrder, ScalarsOutOfOrder};
 
@@ -58,9 +57,8 @@ pub fn no_zero()
     ensures { NoZero }
 {}
 
-/// An encoding has at most twice the bytes of the text, and a strict reading at most the bytes of
-/// the input. The lossy reading and the text of every cutting have at most three times the bytes of
-/// the input.
+/// An encoding has at most twice the bytes of the text, and a strict reading at most those of the
+/// input. The lossy reading and the text of every cutting have at most three times as many.
 pub fn bounds()
     ensures { Bounds }
 {}
@@ -70,8 +68,7 @@ pub fn no_overlap()
     ensures { NoOverlap }
 {}
 
-/// Each offset has exactly one mark in the lossy reading, and the function of the definitions
-/// computes it.
+/// Each offset has exactly one mark in the lossy reading: the one that the definitions compute.
 pub fn one_mark()
     ensures { OneMark }
 {}
@@ -83,16 +80,14 @@ pub fn places()
     ensures exists { HasGreedyCutting }
 {}
 
-/// Of all cuttings of bytes, only the greedy one replaces the fewest bytes. Its text is the lossy
-/// reading.
+/// Of all cuttings, only the greedy one replaces the fewest bytes. Its text is the lossy reading.
 pub fn fewest()
     ensures { Fewest }
 {}
 
 /// The lossy reading of any bytes is a text, and that of an encoding is the encoded text. So
-/// encoding a lossy reading and reading it again returns it unchanged. If bytes have a strict
-/// reading, it is the lossy reading. If the lossy reading has no U+FFFD, the bytes have a strict
-/// reading.
+/// encoding a lossy reading and reading it again returns it unchanged. A strict reading is also the
+/// lossy one. If the lossy reading has no U+FFFD, the bytes have a strict reading.
 pub fn lossy()
     ensures text { ReadingIsText }
     ensures encoding { ReadingOfEncoding }
@@ -102,8 +97,7 @@ pub fn lossy()
 {}
 
 /// The lossy reading of a ++ b is that of a ++ that of b exactly when no encoded character begins
-/// in a and ends in b. The halves of a surrogate pair are ill-formed apart, and one character when
-/// joined.
+/// in a and ends in b. The halves of a surrogate pair, ill-formed apart, join to one character.
 pub fn split()
     ensures parts { Split }
     ensures halves_join { HalvesJoin }
@@ -129,9 +123,8 @@ pub fn dictionary_order()
     ensures slices { SliceOrder }
 {}
 
-/// In dictionary order, two encodings compare as the UTF-16 code units of their texts do. In CESU-8
-/// this always holds. In MUTF-8 it holds if neither text has U+0000, whose encoding is greater than
-/// that of "A".
+/// In dictionary order, two encodings compare as the UTF-16 code units of their texts do: in CESU-8
+/// always, and in MUTF-8 if neither text has U+0000, whose encoding is greater than that of "A".
 ///
 /// This differs from the order of scalar values, which is also that of UTF-8: the encoding of
 /// U+FFFF is greater than that of U+10000.

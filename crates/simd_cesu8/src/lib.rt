@@ -1,9 +1,8 @@
 //! CESU-8 and Modified UTF-8 (MUTF-8).
 //!
 //! Both write each UTF-16 code unit of a string separately, as UTF-8 would write a number. So a
-//! character with four bytes in UTF-8 becomes a surrogate pair of three bytes each. MUTF-8 also
-//! writes U+0000 as C0 80. CESU-8 is the one of Unicode Technical Report 26, MUTF-8 the one of
-//! Java's `DataInput`.
+//! character with four bytes in UTF-8 becomes a surrogate pair of three bytes each. MUTF-8 writes
+//! U+0000 as C0 80. CESU-8 is defined by Unicode Technical Report 26, MUTF-8 by Java's `DataInput`.
 //!
 //! A result borrows from the input exactly when its bytes are the input's bytes: each call says
 //! when that is. Otherwise the call allocates once. If the allocation fails, it returns
@@ -112,16 +111,12 @@ pub fn encoded_len(value: &str) -> usize
 pub fn counted(value: &str) -> CountedText<'_>
     ensures { counted_encoding result ≡ encoding Cesu8 (chars value.now) }
 {
-    CountedText::new(
-        Flavor::Cesu8,
-        value,
-        encoded_len_by_need::<Cesu8Flavor>(value),
-    )
+    let len = encoded_len_by_need::<Cesu8Flavor>(value);
+    CountedText::new(Flavor::Cesu8, value, len)
 }
 
-/// Returns the number of UTF-16 code units of a string. This is the length of a string in Java,
-/// JavaScript, JNI, dex files and many editors. A surrogate pair counts as two. The call allocates
-/// nothing.
+/// Returns the number of UTF-16 code units of a string, which is its length in Java, JavaScript,
+/// JNI, dex files and many editors. A surrogate pair counts as two. The call allocates nothing.
 ///
 /// ```rust
 /// assert_eq!(rt; simd_cesu8::utf16_len("a\u{10FFFF}"), 3);
@@ -133,8 +128,7 @@ pub fn utf16_len(text: &str) -> usize
 }
 
 /// Compares two strings by their UTF-16 code units, as Java's `compareTo`, JavaScript and the
-/// canonical JSON of RFC 8785 do. Comparing their encodings in CESU-8 gives the same order. The
-/// call allocates nothing.
+/// canonical JSON of RFC 8785 do. Their CESU-8 has the same order. The call allocates nothing.
 ///
 /// ```rust
 /// use std::cmp::Ordering;
@@ -317,8 +311,7 @@ pub fn decode_lossy_strict(alloc: Global, bytes: &[u8]) -> Result<CowText<'_>, A
 /// allocates exactly the text's length in bytes, [`lossy_len`], once. It returns `AllocError` if
 /// that fails or if the length does not fit `usize`.
 ///
-/// [`decode`] returns an error for damaged bytes, and [`decode_lossy_strict`] does not accept
-/// UTF-8.
+/// [`decode`] rejects damaged bytes, and [`decode_lossy_strict`] does not accept UTF-8.
 ///
 /// ```rust
 /// let text = simd_cesu8::decode_lossy(alloc, b"\xF0\x9F\x92\x96\xFF")?;
@@ -412,8 +405,7 @@ pub fn valid_up_to(bytes: &[u8]) -> usize
 /// assert_eq!(rt; simd_cesu8::encode_to_slice("\u{10400}", &mut buf)?, 6);
 /// assert_eq!(rt; buf.as_slice(), b"\xED\xA0\x81\xED\xB0\x80\xEE\xEE".as_slice());
 /// ```
-// Inlined, as all calls that write to a slice are: a result that is returned in memory would be
-// copied once more.
+// Inlined, as all calls that write to a slice: a result returned in memory would be copied again.
 #[inline(always)]
 pub fn encode_to_slice(value: &str, buf: &mut [u8]) -> Result<usize, TooShort>
     ensures { WritesAnswer (encoding Cesu8 (chars value.now)) result buf.old buf.new }

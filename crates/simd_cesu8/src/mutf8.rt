@@ -30,8 +30,7 @@ use crate::error::{DecodeFault, DecodeSliceFault, LossySliceFault, TooShort};
 use crate::{calls, codec};
 use std::alloc::{AllocError, Global};
 
-/// Like [`crate::needs_encoded`], for MUTF-8, which also differs from UTF-8 if the string contains
-/// U+0000.
+/// Like [`crate::needs_encoded`], for MUTF-8, which also differs if the string contains U+0000.
 ///
 /// ```rust
 /// assert!(rt; !simd_cesu8::mutf8::needs_encoded("\u{20AC}"));
@@ -64,11 +63,8 @@ pub fn encoded_len(value: &str) -> usize
 pub fn counted(value: &str) -> CountedText<'_>
     ensures { counted_encoding result ≡ encoding Mutf8 (chars value.now) }
 {
-    CountedText::new(
-        Flavor::Mutf8,
-        value,
-        encoded_len_by_need::<Mutf8Flavor>(value),
-    )
+    let len = encoded_len_by_need::<Mutf8Flavor>(value);
+    CountedText::new(Flavor::Mutf8, value, len)
 }
 
 /// Like [`crate::encode`], for MUTF-8.

@@ -9,8 +9,7 @@ use std::marker::PhantomData;
 use std::simd::Mask;
 use std::simd::prelude::*;
 
-/// The width of the widest vector, in bytes. It is at most 64, so that the bits of a mask fit a
-/// `u64`.
+/// The width of the widest vector, in bytes. A mask of at most 64 bits fits a `u64`.
 pub const LANES: usize = 64;
 
 /// A class of bytes, which contracts name as a predicate.

@@ -1,6 +1,5 @@
-//! Sums the weights of bytes of UTF-8, 64 bytes at a time. A byte weighs one if it is in a class,
-//! and two if it leads four bytes. The sum is the growth of an encoding, or the number of code
-//! units.
+//! Sums the weights of bytes of UTF-8, 64 bytes at a time: one for a byte in a class, and two for
+//! one that leads four bytes. The sum is the growth of an encoding, or the number of code units.
 //!
 //! In blocks of 1,024 bytes, each lane of a vector counts its own bytes. These are at most 16, so
 //! no lane overflows. Then the lanes are summed. In the rest, the bits of a mask are counted for
@@ -81,8 +80,7 @@ fn block_weight<C: CountsOne>(block: &[u8]) -> usize
     lane_sum(ones) + 2 * lane_sum(fours)
 }
 
-/// Returns the sum of the lanes. It adds them by fours in wider lanes, since 64 times 16 overflows
-/// a byte.
+/// Returns the sum of the lanes, in wider lanes by fours, since 64 times 16 overflows a byte.
 #[inline(always)]
 fn lane_sum(lanes: u8x64) -> usize
     ensures { result ≡ sum_l lanes }

@@ -14,8 +14,7 @@ use std::simd::prelude::*;
 /// The index that selects no lane and gives 0.
 const E: u8 = 128;
 
-/// The indices of half a block, followed by as many that give 0. The 16 indices from `i` on shift
-/// the lanes down by `i`.
+/// The indices of half a block and as many that give 0. The 16 from `i` on shift lanes down by `i`.
 const INDICES: [u8; 2 * HALF] = [
     0, 1, 2, 3, 4, 5, 6, 7, 8, 9, 10, 11, 12, 13, 14, 15, E, E, E, E, E, E, E, E, E, E, E, E, E, E,
     E, E,

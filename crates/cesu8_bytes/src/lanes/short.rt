@@ -1,8 +1,7 @@
 //! Short slices, for which a loop at each vector width would cost more than the tests do.
 //!
 //! Two vectors of one width, one at the start and one at the end, cover a slice whose length is
-//! between that width and twice that width. In a slice shorter than twice the width they overlap,
-//! so no byte is left out.
+//! between that width and twice that width. If it is shorter than twice the width, they overlap.
 
 ghost use Rattle.std.specs.Prelude.{◌≡◌, ◌≤◌, ◌+◌, ◌*◌, ◌-◌, ◌↔◌, ◌++◌, IsTrue, length, drop};
 ghost use Rattle.cesu8_bytes.specs.Kernels.{AnyIn};
@@ -12,8 +11,7 @@ use crate::writing::offsets::put_lanes;
 use std::simd::prelude::*;
 
 /// From 1,024 bytes on, `copy_short` and `append` copy the slice as a whole, in larger steps. If
-/// the compiler cannot rule out that source and destination alias, the last bytes, up to 127, are
-/// copied one by one.
+/// source and destination may alias for the compiler, up to 127 last bytes are copied one by one.
 pub(crate) const LONG: usize = 16 * LANES;
 
 /// Returns whether there are at most 64 bytes, which two vectors of one width up to 32 cover.

@@ -1,5 +1,4 @@
-//! Searches for a byte of a class by vectors of each width, for the kernels of
-//! `implementation::simd`.
+//! Searches for a byte of a class by vectors of each width, for `implementation::simd`.
 
 ghost use Rattle.std.specs.Prelude.{◌≡◌, ◌≤◌, ◌<◌, ◌↔◌, IsTrue, IfSome, IfNone, length};
 ghost use Rattle.cesu8_bytes.specs.Kernels.{AnyIn, MayTest, Finds};
@@ -9,8 +8,7 @@ use super::groups::InGroups;
 use super::search::{any_in_chunks, any_in_each};
 
 /// Returns whether some byte is in a class. Vectors of 64 bytes test as many whole chunks as there
-/// are, narrower vectors test the bytes that are left, and `fallback` tests a single byte at the
-/// end.
+/// are, narrower vectors test the bytes that are left, and `fallback` tests a single last byte.
 #[inline(always)]
 pub fn any_by_widths<C, F>(value: &[u8], fallback: F) -> bool
 where

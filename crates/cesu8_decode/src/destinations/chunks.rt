@@ -20,8 +20,7 @@ use cesu8_bytes::writing::offsets::put;
 /// decoding finds an ill-formed byte soon.
 const CLEARED_AT_ONCE: usize = 4096;
 
-/// Appends the decoded text to a vector, or returns an error if decoding is strict and a byte is
-/// ill-formed.
+/// Appends the decoded text to a vector. In strict decoding an ill-formed byte is an error.
 #[inline(never)]
 pub fn append_chunks<F: Flavor, S: Reading>(
     bytes: &[u8],

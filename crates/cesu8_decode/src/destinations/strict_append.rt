@@ -2,8 +2,7 @@
 //! character that needs conversion to the next.
 //!
 //! If such characters are far apart, the test for the unchanged prefix finds the run between two of
-//! them, which is copied. If the byte after a run begins none, or the last one is cut off, the
-//! input is ill-formed.
+//! them, which is copied. If no whole such character follows a run, the input is ill-formed.
 
 ghost use Rattle.std.specs.Prelude.{◌≡◌, ◌+◌, ◌<◌, ◌≤◌, length, vec_len, vec_capacity, OnErr, IfOk};
 ghost use Rattle.cesu8_text.specs.Reading.{HasNoStrictReading};

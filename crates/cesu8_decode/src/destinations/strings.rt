@@ -40,9 +40,8 @@ pub fn write_strictly<F: Flavor>(
     requires empty { (empty.items ≡ []) × (length bytes.now ≤ vec_capacity empty) }
     ensures { AppendsReading F.flavor Strict bytes.now empty result }
 {
-    // The prefix is not all of the bytes. So a character that needs conversion follows it, or else
-    // a byte is ill-formed. Of at most 64 bytes the mask `changed` is 0 exactly if one is
-    // ill-formed.
+    // Some bytes follow the prefix. So a character that needs conversion follows it, or else a byte
+    // is ill-formed. Of at most 64 bytes the mask `changed` is 0 exactly if one is ill-formed.
     if are_short(bytes) {
         if prefix.changed == 0 {
             return Err(NoText);
@@ -120,8 +119,7 @@ fn build_by_array<F: Flavor, const WRITTEN: usize>(
 }
 
 /// Returns the lossily decoded text of more than 4,096 bytes. A length that does not fit `usize` is
-/// reported as a failed allocation. The first part is decoded before the length of the rest is
-/// counted.
+/// reported as a failed allocation. The first part is decoded before the rest is counted.
 #[inline(never)]
 fn build_chunks<F: Flavor>(alloc: Global, bytes: &[u8]) -> Result<Vec<u8>, AllocError>
     requires { LARGEST_ARRAY < length bytes.now }

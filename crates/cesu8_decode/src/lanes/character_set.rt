@@ -68,8 +68,7 @@ const BY_LOW: [u8; 16] = [
     ANY_LOW, ANY_LOW, LOW_D, ANY_LOW, ANY_LOW,
 ];
 
-// Entries by the upper half of the second byte: a continuation byte from 80, A0 or B0 on, or any
-// other byte.
+// Entries by the upper half of the second byte: continuation bytes from 80, A0 or B0 on, or others.
 const OTHER: u8 = TOO_SHORT | TOO_LARGE;
 
 const FROM_A0: u8 = TOO_LONG | OVERLONG_C0 | OVERLONG_C1 | TOO_LARGE | TWO_CONTS;

@@ -67,8 +67,7 @@ pub fn two_follow<F: Flavor, S: CharacterSet>(bytes: &[u8], at: usize) -> bool
     bits::<HighestBit, BLOCK>(error_mask::<F, S>(first) | error_mask::<F, S>(second)) == 0
 }
 
-/// Returns an error mask: FF for each byte of a block that cannot follow the bytes before it, and
-/// 00 for the others.
+/// Returns an error mask: FF for each byte of a block that cannot follow those before it, else 00.
 #[inline(always)]
 fn error_mask<F: Flavor, S: CharacterSet>(block: Block) -> u8x32
     ensures { (window : List ℕ) (at : ℕ) → IsBlockAt S.set window at block
@@ -124,8 +123,7 @@ fn required_classes<S: CharacterSet>(
     ensures { result ≡ zip2 (λ wants d. wants d)
         (zip2 (required_class S.set) four_before three_before) two_before }
 {
-    // The highest bit is left if the byte is E0 or more, the lead byte of a character of three
-    // bytes.
+    // The highest bit is left if the byte is E0 or more: it leads a character of three bytes.
     let third = two_before.saturating_sub(u8x32::splat(0xE0 - 0x80)) & u8x32::splat(TWO_CONTS);
     if !S::rule().has_changed {
         return third;

@@ -16,8 +16,7 @@ use std::simd::prelude::*;
 /// since no character is longer than six bytes.
 pub const STEP: usize = LANES - 5;
 
-/// The starts of characters: bit `i` of a mask is set if a character of its form begins at byte
-/// `i`.
+/// The starts of characters: bit `i` of a mask is set if a character of its form begins there.
 #[derive(Clone, Copy)]
 pub struct Masks {
     /// Bytes that are not a character of one byte: bytes that are not ASCII, and in MUTF-8 also 00.
@@ -82,8 +81,7 @@ fn first_bits(count: usize) -> u64
     (1 << count) - 1
 }
 
-/// Returns a mask of the bytes in which one bit is set: the bit that is `below` places below the
-/// highest.
+/// Returns a mask of the bytes in which the bit `below` places below the highest is set.
 #[inline(always)]
 fn bits_below<const N: usize>(lanes: Simd<u8, N>, below: u8) -> u64
     requires lanes { N ≤ LANES }
@@ -122,10 +120,9 @@ fn nulls_of<F: Flavor, const N: usize>(lanes: Simd<u8, N>, below_c2: u64) -> u64
     bits::<Equal<0xC0>, N>(lanes) & (bits::<Equal<0x80>, N>(lanes) >> 1)
 }
 
-/// Returns the starts of characters of three bytes, and those of surrogate pairs. `leads` marks
-/// bytes from E0 on that precede a continuation byte, and `second` any byte that precedes one.
-/// `wide` marks bytes with bit 20 (hexadecimal): lead bytes from E0 on, and continuation bytes from
-/// A0 on.
+/// Returns the starts of three-byte characters and of surrogate pairs. `leads` marks bytes from E0
+/// on that precede a continuation byte, and `second` any byte that precedes one. `wide` marks bytes
+/// with bit 20 (hexadecimal): lead bytes from E0 on, and continuation bytes from A0 on.
 #[inline(always)]
 fn threes_and_pairs<const N: usize>(
     lanes: Simd<u8, N>,
@@ -143,8 +140,7 @@ fn threes_and_pairs<const N: usize>(
     if leads == 0 {
         return (0, 0);
     }
-    // Bit 10 is set in lead bytes from F0 on, and among continuation bytes from A0 on in those from
-    // B0 on.
+    // Bit 10 is set in lead bytes from F0 on, and among continuation bytes A0 to BF from B0 on.
     let odd = bits_below::<N>(lanes, 3);
     let whole = leads & (second >> 1) & !odd;
     // Any continuation byte can follow the other lead bytes.

@@ -1,5 +1,4 @@
-//! Look-ups of bytes in tables of sixteen entries, and the shuffles that shift bytes from one
-//! vector to the next.
+//! Look-ups of bytes in tables of sixteen entries, and shuffles that shift bytes between vectors.
 
 ghost use Rattle.std.specs.Prelude.{◌≡◌, ◌%◌, map, slice_index};
 ghost use Rattle.std.specs.Simd.Lanes.{zip2};
@@ -60,8 +59,7 @@ pub fn common_bits(
 fn look_up(table: [u8; 16], lanes: u8x32) -> u8x32
     ensures { result ≡ map (λ lane. slice_index table (lane % 16)) lanes }
 {
-    // Each half of the lanes is looked up in its own sixteen lanes, so the vector holds the table
-    // twice.
+    // Each half of the lanes is looked up in its own sixteen, so the vector holds the table twice.
     u8x16::from_array(table)
         .swizzle::<32>(TWICE)
         .swizzle_dyn_within::<16>(lanes & u8x32::splat(15))

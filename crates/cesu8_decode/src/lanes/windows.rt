@@ -46,8 +46,7 @@ pub fn window_at<F: Flavor>(bytes: &[u8], at: usize, count: usize) -> Window
     window_of_lanes::<F, LANES>(u8x64::from_slice(&bytes[at..]), count)
 }
 
-/// Returns the window of at most 64 bytes, which are the whole input. Up to 32 bytes need only a
-/// vector of half the length.
+/// Returns the window of at most 64 bytes, the whole input. Up to 32 need only half a vector.
 #[inline(always)]
 pub fn window_of_short<F: Flavor>(bytes: &[u8]) -> Window
     requires { length bytes.now ≤ LANES }

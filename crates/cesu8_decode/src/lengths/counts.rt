@@ -1,8 +1,7 @@
 //! By how many bytes the lossily decoded text is shorter than three bytes for each input byte.
 //!
 //! Each character saves a number of bytes that depends on its form, and an ill-formed byte saves
-//! none. So the sum follows from how many bits are set in the masks of the characters that begin at
-//! each offset.
+//! none. So the sum follows from the number of set bits in the masks of the characters' starts.
 
 ghost use Rattle.std.specs.Prelude.{◌≡◌, ◌+◌, ◌-◌, ◌*◌, ◌<◌, ◌≤◌, length, drop};
 ghost use Rattle.cesu8_decode.specs.DecodedOffsets.{total_saved, saved_between};
@@ -40,8 +39,7 @@ pub fn saved_by_last<F: Flavor>(bytes: &[u8], count: usize) -> usize
     saved_by_lanes::<F, LANES>(lanes, LANES - count, count)
 }
 
-/// Returns what `count` offsets save, after the first `counted`. The lanes count as followed by
-/// zeros.
+/// Returns what `count` offsets save, after the first `counted`, as if zeros followed the lanes.
 #[inline(always)]
 #[tactic(auto, using(crate::proofs::decoder::MaskCounts::counts_of_masks))]
 pub fn saved_by_lanes<F: Flavor, const N: usize>(

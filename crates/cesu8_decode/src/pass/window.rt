@@ -21,8 +21,7 @@ pub const WIDEST: usize = 3;
 /// what is stored after it.
 pub const ROOM: usize = WIDEST * LANES + STORED_AFTER;
 
-/// The most bytes that a window can read after the `count` bytes that it is called for. They are
-/// the last bytes of a character.
+/// The most bytes that a window can read after its `count` bytes: the last ones of a character.
 pub const READ_AFTER: usize = LANES - STEP;
 
 /// The result of a window: how many bytes were read, the end of the text, and whether strict

@@ -33,15 +33,13 @@ pub const LARGE_LOSSY: usize = WIDEST * LARGE_ARRAY + ROOM;
 
 pub const LARGEST_LOSSY: usize = WIDEST * LARGEST_ARRAY + ROOM;
 
-/// How many bytes of input a window in place needs: its own, and as many that can be loaded after
-/// them.
+/// How many bytes of input a window in place needs: its own, and as many to load after them.
 const IN_PLACE: usize = 2 * LANES;
 
 /// How many bytes before an offset decide whether a character crosses it.
 const BEFORE: usize = 5;
 
-/// The length of an array for the last bytes, the five before them, and the zeros that are loaded
-/// after them.
+/// The length of an array for the last bytes, the five before them, and the zeros after them.
 const AROUND: usize = BEFORE + IN_PLACE + READ_AFTER + LANES;
 
 /// The state of the pass: how many bytes were read, the end of their text, and whether strict
@@ -53,9 +51,8 @@ pub struct Pass {
     pub is_rejected: bool,
 }
 
-/// Continues the pass from a character boundary, as long as the buffer has space for the text of
-/// another window. It stops at a window that strict decoding rejects. It is not inlined, since it
-/// has many callers.
+/// Continues the pass from a character boundary, while the buffer has space for another window's
+/// text. It stops at a window that strict decoding rejects. Not inlined, since it has many callers.
 #[inline(never)]
 pub fn write_windows<F: Flavor>(
     bytes: &[u8],
@@ -101,8 +98,7 @@ fn write_pairs<F: Flavor>(bytes: &[u8], read: usize, limit: usize, out: &mut [u8
         → GoesOn F.flavor which bytes.now (pass_from read) result out.old out.new }
     ensures fine { result.is_rejected ≡ false }
 {
-    // The loop ends at the last pair that the buffer has space for, so that it need not test the
-    // space for each.
+    // The loop ends at the last pair that the buffer has space for, with no test of space for each.
     let stop = read + (bytes.len() - read).min(limit / PAIR_UTF8 * PAIR + PAIR_READ);
     let last = stop.saturating_sub(PAIR_READ - 1);
     let mut at = read;
@@ -145,8 +141,7 @@ fn write_in_place<F: Flavor>(
             end: window.end,
             is_rejected: window.is_rejected,
         };
-        // After two successive windows without an event, a test for a longer unchanged run is
-        // faster.
+        // After two successive windows without an event, testing for a longer run is faster.
         if was_unchanged && window.is_unchanged && pass.end <= limit {
             pass = copy_unchanged::<F>(bytes, pass, limit, out);
         }
@@ -155,8 +150,7 @@ fn write_in_place<F: Flavor>(
     pass
 }
 
-/// Copies the next characters that are unchanged in UTF-8, up to the first that is not, or as many
-/// as there is space for.
+/// Copies the next characters that are unchanged in UTF-8, or as many as there is space for.
 #[inline(always)]
 fn copy_unchanged<F: Flavor>(bytes: &[u8], before: Pass, limit: usize, out: &mut [u8]) -> Pass
     requires pass { IsPass F.flavor bytes.now before.read }

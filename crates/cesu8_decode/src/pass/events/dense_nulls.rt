@@ -1,7 +1,6 @@
 //! Writes the text of a window in which many bytes are C0 80, and which has no other event.
 //!
-//! C0 becomes 00 and 80 is dropped, so shuffles pack the bytes eight at a time, with no branch on a
-//! byte.
+//! C0 becomes 00 and 80 is dropped, so shuffles pack the bytes by eights, with no branch on a byte.
 
 ghost use Rattle.std.specs.Prelude.{◌≡◌, ◌+◌, ◌≤◌, ◌==◌, if◌then◌else◌, true, length, map};
 ghost use Rattle.cesu8_bytes.specs.Puts.{WritesAt};

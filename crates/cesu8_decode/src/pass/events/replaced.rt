@@ -97,8 +97,7 @@ fn store_replaced(bytes: u8x16, ill_formed: usize, out: &mut [u8], at: usize) ->
     store_four(second_of(third), ill_formed >> 12 & 0x0F, out, at)
 }
 
-/// Stores four bytes, with the replacement character in place of those whose bit is set, and
-/// returns the end.
+/// Stores four bytes, U+FFFD in place of those whose bit is set, and returns the end.
 #[inline(always)]
 fn store_four(lanes: u8x16, ill_formed: usize, out: &mut [u8], at: usize) -> usize
     requires small { ill_formed < 0x10 }
