@@ -13,7 +13,7 @@ ghost use Rattle.cesu8_bytes.specs.Kernels.{mask};
 ghost use Rattle.cesu8_decode.specs.Following.{CharacterSet as AnySet, has_changed, pair_class, required_class, follows_at, AllFollow, IsBlockAt};
 
 use super::character_set::{Block, CharacterSet, DECIDING, OVERLONG_C0, SURROGATE, TWO_CONTS};
-use super::tables::{FROM_28, FROM_29, FROM_30, FROM_31, HighestBit, common_bits};
+use super::tables::{FROM_28, FROM_29, FROM_30, FROM_31, HighestBit, look_up};
 use cesu8_bytes::BLOCK;
 use cesu8_bytes::flavor::{Flavor, nulls};
 use cesu8_bytes::lanes::class::{Equal, NonAscii, bits, mask};
@@ -74,13 +74,9 @@ fn error_mask<F: Flavor, S: CharacterSet>(block: Block) -> u8x32
         → result ≡ map (λ i. mask (not (follows_at S.set F.flavor window i)))
         (range_with_len at BLOCK) }
 {
-    let required_class = required_classes::<S>(
-        block.four_before,
-        block.three_before,
-        block.two_before,
-    );
+    let required = required_classes::<S>(block.four_before, block.three_before, block.two_before);
     pair_classes::<F, S>(block.one_before, block.bytes)
-        .simd_eq(required_class)
+        .simd_eq(required)
         .select(u8x32::splat(0), u8x32::splat(0xFF))
 }
 
@@ -90,7 +86,10 @@ fn pair_classes<F: Flavor, S: CharacterSet>(first: u8x32, second: u8x32) -> u8x3
     ensures { result ≡ zip2 (pair_class S.set F.flavor) first second }
 {
     let rule = S::rule();
-    let of_two = common_bits(rule.by_high, rule.by_low, rule.by_next, first, second);
+    let four = u8x32::splat(4);
+    let of_two = look_up(rule.by_high, first >> four)
+        & look_up(rule.by_low, first)
+        & look_up(rule.by_next, second >> four);
     if F::has_long_null() {
         return (of_two & kept_of_null::<S>(second)) | nulls::<F>(second);
     }

@@ -1,8 +1,6 @@
 //! Look-ups of bytes in tables of sixteen entries, and shuffles that shift bytes between vectors.
 
 ghost use Rattle.std.specs.Prelude.{◌≡◌, ◌%◌, map, slice_index};
-ghost use Rattle.std.specs.Simd.Lanes.{zip2};
-ghost use Rattle.cesu8_decode.specs.Following.{table_bits};
 
 use cesu8_bytes::BLOCK;
 use cesu8_bytes::lanes::class::AtLeast;
@@ -38,25 +36,9 @@ pub const FROM_30: [usize; BLOCK] = numbers_from!(30);
 
 pub const FROM_31: [usize; BLOCK] = numbers_from!(31);
 
-/// Returns for each pair of bytes the bits that three table entries have in common: by the upper
-/// half of the first byte, by its lower half, and by the upper half of the second.
-#[inline(always)]
-pub fn common_bits(
-    by_high: [u8; 16],
-    by_low: [u8; 16],
-    by_next: [u8; 16],
-    first: u8x32,
-    second: u8x32,
-) -> u8x32
-    ensures { result ≡ zip2 (table_bits by_high by_low by_next) first second }
-{
-    let four = u8x32::splat(4);
-    look_up(by_high, first >> four) & look_up(by_low, first) & look_up(by_next, second >> four)
-}
-
 /// Returns the entry of a table for the lower half of each lane.
 #[inline(always)]
-fn look_up(table: [u8; 16], lanes: u8x32) -> u8x32
+pub fn look_up(table: [u8; 16], lanes: u8x32) -> u8x32
     ensures { result ≡ map (λ lane. slice_index table (lane % 16)) lanes }
 {
     // Each half of the lanes is looked up in its own sixteen, so the vector holds the table twice.

@@ -141,7 +141,7 @@ fn write_in_place<F: Flavor>(
             end: window.end,
             is_rejected: window.is_rejected,
         };
-        // After two successive windows without an event, testing for a longer run is faster.
+        // After two successive windows without an event, a test for an unchanged run is faster.
         if was_unchanged && window.is_unchanged && pass.end <= limit {
             pass = copy_unchanged::<F>(bytes, pass, limit, out);
         }
