@@ -1,6 +1,6 @@
 //! A string with the length of its encoding, for formats that write the length first.
 
-ghost use Rattle.std.specs.Prelude.{◌≡◌, length};
+ghost use Rattle.std.specs.Prelude.{◌≡◌, ◌≤◌, ◌+◌, ◌++◌, [], length, OnOk, OnErr, IsOk, vec_len, vec_capacity};
 ghost use Rattle.std.specs.Str.{chars};
 ghost use Rattle.simd_cesu8.specs.Encoding.{encoding};
 ghost use Rattle.simd_cesu8.specs.Codec.{flavor_of};
@@ -29,10 +29,6 @@ pub struct CountedText<'a> {
 }
 
 impl<'a> CountedText<'a> {
-    ghost use Rattle.std.specs.Prelude.{◌≡◌, ◌≤◌, ◌+◌, ◌++◌, [], length, OnOk, OnErr, IsOk, vec_len, vec_capacity};
-    ghost use Rattle.std.specs.Str.{chars};
-    ghost use Rattle.simd_cesu8.specs.Encoding.{encoding};
-    ghost use Rattle.simd_cesu8.specs.Codec.{flavor_of};
     ghost use Rattle.simd_cesu8.specs.Counted.{counted_encoding};
 
     #[inline(always)]

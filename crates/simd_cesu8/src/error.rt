@@ -1,6 +1,6 @@
 //! The errors of this crate's calls.
 
-ghost use Rattle.std.specs.Prelude.{Some, codes, true};
+ghost use Rattle.std.specs.Prelude.{◌≡◌, Some, codes, true};
 ghost use Rattle.std.proofs.Common.{rules};
 ghost use Rattle.simd_cesu8.specs.Fault.{message_of, slice_message_of, lossy_message_of};
 
@@ -105,8 +105,6 @@ pub struct TooShort {
 }
 
 impl TooShort {
-    ghost use Rattle.std.specs.Prelude.{◌≡◌};
-
     #[inline(always)]
     pub(crate) fn new(needed: usize) -> TooShort
         ensures { result.needed ≡ needed }
