@@ -1,5 +1,9 @@
 //! Results that borrow from the input if they can.
 
+ghost use Rattle.std.specs.Prelude.{◌≡◌, [], length, IsTrue, IfOk, IsOk, OnErr, Ok, vec_capacity};
+ghost use Rattle.std.specs.String.{string_bytes, string_capacity};
+ghost use Rattle.simd_cesu8.specs.Cow.{answer_bytes, borrows_bytes, IfOwned, answer_text, borrows_text, IfOwnedText};
+
 use crate::codec;
 use std::alloc::{AllocError, Global};
 
@@ -13,9 +17,6 @@ pub enum CowBytes<'a> {
 }
 
 impl<'a> CowBytes<'a> {
-    ghost use Rattle.std.specs.Prelude.{◌≡◌, [], length, IsTrue, IfOk, IsOk, OnErr, Ok, vec_capacity};
-    ghost use Rattle.simd_cesu8.specs.Cow.{answer_bytes, borrows_bytes, IfOwned};
-
     /// Returns the bytes, in either case.
     ///
     /// ```rust
@@ -77,10 +78,6 @@ pub enum CowText<'a> {
 }
 
 impl<'a> CowText<'a> {
-    ghost use Rattle.std.specs.Prelude.{◌≡◌, [], length, IsTrue, IfOk, IsOk, OnErr, Ok};
-    ghost use Rattle.std.specs.String.{string_bytes, string_capacity};
-    ghost use Rattle.simd_cesu8.specs.Cow.{answer_text, borrows_text, IfOwnedText};
-
     /// Returns the text, in either case.
     ///
     /// ```rust
