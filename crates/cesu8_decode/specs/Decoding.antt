@@ -88,6 +88,13 @@ pub record IsPass (f : Flavor) (bytes : List ℕ) (read : ℕ) : Type 0 where
   pub within : read ≤ length bytes
   pub boundary : is_boundary_at f (window_of bytes) read ≡ true
 
+-- A pass can go on: it stands at a character boundary, has rejected nothing, and its text ends
+-- within the first `most` bytes of the buffer.
+pub record CanGoOn (f : Flavor) (bytes : List ℕ) (at : Pass) (most : ℕ) : Type 0 where
+  pub pass : IsPass f bytes at.read
+  pub fine : at.is_rejected ≡ false
+  pub end : at.end ≤ most
+
 -- The state of a pass that has read some bytes, and whose buffer is empty.
 abbrev pub pass_from : ℕ → Pass
 pass_from read = record { read = read; end = 0; is_rejected = false }

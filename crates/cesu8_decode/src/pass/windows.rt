@@ -7,7 +7,7 @@
 
 ghost use Rattle.std.specs.Prelude.{◌≡◌, ℕ, ◌+◌, ◌-◌, ◌*◌, ◌<◌, ◌≤◌, false, length};
 ghost use Rattle.cesu8_bytes.specs.declared.strictness.Strictness.{Strictness as AnyStrictness};
-ghost use Rattle.cesu8_decode.specs.Decoding.{IsPass, GoesOn, WritesReading, pass_from, room_for};
+ghost use Rattle.cesu8_decode.specs.Decoding.{IsPass, CanGoOn, GoesOn, WritesReading, pass_from, room_for};
 
 use super::window::{READ_AFTER, ROOM, WIDEST, write_window};
 use crate::lanes::character_set::Unchanged;
@@ -123,9 +123,7 @@ fn write_in_place<F: Flavor>(
     limit: usize,
     out: &mut [u8],
 ) -> Pass
-    requires pass { IsPass F.flavor bytes.now before.read }
-    requires fine { before.is_rejected ≡ false }
-    requires end { before.end ≤ length out.old }
+    requires before { CanGoOn F.flavor bytes.now before (length out.old) }
     requires room { limit + ROOM ≤ length out.old }
     ensures more { GoesOn F.flavor strictness bytes.now before result out.old out.new }
     ensures fresh { result.read ≡ before.read → result.is_rejected ≡ false }
@@ -153,9 +151,7 @@ fn write_in_place<F: Flavor>(
 /// Copies the next characters that are unchanged in UTF-8, or as many as there is space for.
 #[inline(always)]
 fn copy_unchanged<F: Flavor>(bytes: &[u8], before: Pass, limit: usize, out: &mut [u8]) -> Pass
-    requires pass { IsPass F.flavor bytes.now before.read }
-    requires fine { before.is_rejected ≡ false }
-    requires end { before.end ≤ limit }
+    requires before { CanGoOn F.flavor bytes.now before limit }
     requires room { limit ≤ length out.old }
     ensures more { (which : AnyStrictness)
         → GoesOn F.flavor which bytes.now before result out.old out.new }
@@ -184,10 +180,8 @@ fn write_last<F: Flavor>(
     limit: usize,
     out: &mut [u8],
 ) -> Pass
-    requires pass { IsPass F.flavor bytes.now before.read × (before.read < length bytes.now) }
-    requires last { length bytes.now < before.read + IN_PLACE }
-    requires fine { before.is_rejected ≡ false }
-    requires end { before.end ≤ limit }
+    requires before { CanGoOn F.flavor bytes.now before limit }
+    requires last { (before.read < length bytes.now) × (length bytes.now < before.read + IN_PLACE) }
     requires room { limit + ROOM ≤ length out.old }
     ensures more { GoesOn F.flavor strictness bytes.now before result out.old out.new }
     ensures some { before.read < result.read }

@@ -14,6 +14,6 @@ returns-clause-more g c which =
     let len = c.longest_prefix-len.result in
     let put = c.put.ensures in
     subst (λ refused. GoesOn f which bytes (record { read = before.read; end = before.end; is_rejected = refused }) (pass_at (before.read + len) c.put.result) c.args.out.now c.put.new.out)
-    (sym c.requires.fine)
-    (front_goes_on f which bytes _ c.min.result before.read before.end len c.put.result c.requires.pass refl (rw take_rest at c.longest_prefix-len.ensures) _ _ (rw take_rest at put)
-    (omega (arith, put.writes.end, put.writes.len, length-take-le len _ c.longest_prefix-len.ensures.within, c.longest_prefix-len.ensures.within, length-take c.min.result (take (length bytes - before.read) (drop before.read bytes)), c.min.ensures, c.requires.end, c.requires.room)))
+    (sym c.requires.before.fine)
+    (front_goes_on f which bytes _ c.min.result before.read before.end len c.put.result c.requires.before.pass refl (rw take_rest at c.longest_prefix-len.ensures) _ _ (rw take_rest at put)
+    (omega (arith, put.writes.end, put.writes.len, length-take-le len _ c.longest_prefix-len.ensures.within, c.longest_prefix-len.ensures.within, length-take c.min.result (take (length bytes - before.read) (drop before.read bytes)), c.min.ensures, c.requires.before.end, c.requires.room)))

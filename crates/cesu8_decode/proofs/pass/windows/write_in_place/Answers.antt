@@ -6,9 +6,9 @@ use Rattle.cesu8_decode.proofs.pass.windows.write_in_place.Goals as goal
 
 pub loop-pass-init : goal.loop-pass-init
 loop-pass-init g c = record {
-  more = goes_nowhere g.F.Flavor.flavor c.args.strictness c.args.bytes.now c.args.before c.args.out.now (λ _. c.requires.pass) c.requires.pass.within
-      c.requires.fine c.requires.end;
-  fresh = λ _. c.requires.fine;
+  more = goes_nowhere g.F.Flavor.flavor c.args.strictness c.args.bytes.now c.args.before c.args.out.now (λ _. c.requires.before.pass) c.requires.before.pass.within
+      c.requires.before.fine c.requires.before.end;
+  fresh = λ _. c.requires.before.fine;
 }
 
 pub write_window-window-requires-clause-boundary : goal.write_window-window-requires-clause-boundary

@@ -14,9 +14,9 @@ use Rattle.cesu8_decode.proofs.pass.windows.write_last.Goals.{then-left-gt-LANES
 
 pub loop-pass-init : goal.loop-pass-init
 loop-pass-init g c = record {
-  more = goes_nowhere g.F.Flavor.flavor c.args.strictness c.args.bytes.now c.args.before c.args.out.now (λ _. c.requires.pass.0) c.requires.pass.0.within
-      c.requires.fine (omega (arith, c.requires.end, c.requires.room));
-  fresh = λ _. (c.requires.fine, c.requires.end);
+  more = goes_nowhere g.F.Flavor.flavor c.args.strictness c.args.bytes.now c.args.before c.args.out.now (λ _. c.requires.before.pass) c.requires.before.pass.within
+      c.requires.before.fine (omega (arith, c.requires.before.end, c.requires.room));
+  fresh = λ _. (c.requires.before.fine, c.requires.before.end);
 }
 
 -- The array has the bytes from `first` on, and zeros after them.

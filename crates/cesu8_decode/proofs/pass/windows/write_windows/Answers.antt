@@ -10,29 +10,23 @@ inside read long low other = omega arith
 later : (start between after read : ℕ) → start ≤ between → between ≤ after → after < read → start < read
 later start between after read first second third = omega arith
 
-pub write_in_place-pass-requires-clause-pass : goal.write_in_place-pass-requires-clause-pass
-write_in_place-pass-requires-clause-pass g c = (c.write_pairs-pairs.ensures.more c.args.strictness).pass c.write_pairs-pairs.ensures.fine
-
-pub write_in_place-pass-requires-clause-end : goal.write_in_place-pass-requires-clause-end
-write_in_place-pass-requires-clause-end g c = (c.write_pairs-pairs.ensures.more c.args.strictness).inside
+pub write_in_place-pass-requires-clause-before : goal.write_in_place-pass-requires-clause-before
+write_in_place-pass-requires-clause-before g c =
+    let more = c.write_pairs-pairs.ensures.more c.args.strictness in
+    record { pass = more.pass c.write_pairs-pairs.ensures.fine; fine = c.write_pairs-pairs.ensures.fine; end = more.inside }
 
 pub returns-then-pass-clause-more : goal.returns-then-pass-clause-more
 returns-then-pass-clause-more g c =
     goes_further g.F.Flavor.flavor c.args.strictness c.args.bytes.now _ _ _ _ _ _ (c.write_pairs-pairs.ensures.more c.args.strictness) c.write_pairs-pairs.ensures.fine c.write_in_place-pass.ensures.more
 
-pub write_last-requires-clause-pass : goal.write_last-requires-clause-pass
-write_last-requires-clause-pass g c =
-    let more = c.write_in_place-pass.ensures.more in
-    (more.pass c.if-pass.false, inside _ _ more.within.1 c.if-pass-bytes.false)
+pub write_last-requires-clause-before : goal.write_last-requires-clause-before
+write_last-requires-clause-before g c =
+    record { pass = c.write_in_place-pass.ensures.more.pass c.if-pass.false; fine = c.if-pass.false; end = c.if-pass-limit.false }
 
 pub write_last-requires-clause-last : goal.write_last-requires-clause-last
-write_last-requires-clause-last g c = c.write_in_place-pass.ensures.last c.if-pass.false c.if-pass-limit.false
-
-pub write_last-requires-clause-fine : goal.write_last-requires-clause-fine
-write_last-requires-clause-fine g c = c.if-pass.false
-
-pub write_last-requires-clause-end : goal.write_last-requires-clause-end
-write_last-requires-clause-end g c = c.if-pass-limit.false
+write_last-requires-clause-last g c =
+    let pass = c.write_in_place-pass.ensures in
+    (inside _ _ pass.more.within.1 c.if-pass-bytes.false, pass.last c.if-pass.false c.if-pass-limit.false)
 
 pub returns-clause-more : goal.returns-clause-more
 returns-clause-more g c =
