@@ -1,4 +1,4 @@
-//! The decoder: turns CESU-8 or MUTF-8 into UTF-8. An internal crate: users call `simd_cesu8`.
+//! The decoder: turns CESU-8 or MUTF-8 into UTF-8. It is internal: users call `simd_cesu8`.
 //!
 //! An encoded character has at most six bytes, two never overlap, and its own bytes alone decide
 //! whether one begins at an offset. So the bytes near an offset decide what lossy decoding makes of

@@ -1,5 +1,5 @@
-//! The modes of decoding: `Lenient` returns input unchanged if it is UTF-8, and `EncodingAlone` only
-//! if it is UTF-8 in which nothing needs conversion.
+//! The modes of decoding: `Lenient` returns input unchanged if it is UTF-8, and `EncodingAlone`
+//! only if it is UTF-8 in which nothing needs conversion.
 //!
 //! A public call has the mode as a type, so that its fast path is compiled for that mode. Functions
 //! called after it do not depend on the mode, or get it as a value, so that one serves both modes.

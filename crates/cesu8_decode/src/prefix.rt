@@ -37,8 +37,8 @@ pub fn unchanged_prefix<F: Flavor>(bytes: &[u8]) -> UnchangedPrefix
     }
 }
 
-/// Like `unchanged_prefix`. It is not inlined, so that its callers are small, and returns two words,
-/// which fit in registers.
+/// Like `unchanged_prefix`. It is not inlined, so that its callers are small, and returns two
+/// words, which fit in registers.
 #[inline(never)]
 pub fn unchanged_prefix_by_call<F: Flavor>(bytes: &[u8]) -> UnchangedPrefix
     ensures { IsUnchangedPrefix F.flavor bytes.now result }

@@ -1,6 +1,6 @@
-//! The length of the valid prefix: how many bytes from the start are whole encoded characters. In at
-//! most 64 bytes, one window, it ends at the first byte that no character covers. `prefix` finds it
-//! in longer input.
+//! The length of the valid prefix: how many bytes from the start are whole encoded characters. In
+//! at most 64 bytes, one window, it ends at the first byte that no character covers. `prefix` finds
+//! it in longer input.
 
 ghost use Rattle.std.specs.Prelude.{◌≡◌, IsTrue, false};
 ghost use Rattle.cesu8_text.specs.Fronts.{IsValidUpTo};

@@ -144,7 +144,8 @@ fn store_row(lanes: u8x16, doubled: usize, out: &mut [u8], at: usize) -> usize
 
 /// Writes what the lanes say for the first `count` bytes of a block, and returns its end.
 ///
-/// If the four rows fit, they are stored whole, and the next block overwrites the excess.
+/// If the four rows fit, they are stored whole, and the next block overwrites what lies after the
+/// end.
 #[inline(always)]
 fn write_lanes(block: &EncodedBlock, count: usize, out: &mut [u8], end: usize) -> usize
     requires count { count ≤ BLOCK }

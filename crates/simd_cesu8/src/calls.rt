@@ -48,7 +48,8 @@ pub fn decode_as<F: Flavor, A: Accepts>(
     alloc: Global,
     bytes: &[u8],
 ) -> Result<CowText<'_>, DecodeFault>
-    ensures { DecodesAs (Keeps A.mode F.flavor bytes.now) (Reads A.mode F.flavor bytes.now) bytes.now result }
+    ensures { DecodesAs (Keeps A.mode F.flavor bytes.now)
+        (Reads A.mode F.flavor bytes.now) bytes.now result }
 {
     let Some(front) = prefix_unless_kept::<F, A>(bytes) else {
         return Ok(CowText::Borrowed(known_text(bytes)));

@@ -87,7 +87,8 @@ fn put_after_prefix<F: Flavor>(
 }
 
 /// Writes the lossily decoded text to a caller's slice and returns its length. Returns an error if
-/// the slice is too short. Not inlined, so that a call that copies its input saves no register.
+/// the slice is too short. It is not inlined, so that a call that copies its input saves no
+/// register for it.
 #[inline(never)]
 pub fn put_lossily<F: Flavor>(
     bytes: &[u8],

@@ -53,8 +53,9 @@ pub fn write_short<F: Flavor, S: Reading>(
     }
 }
 
-/// Writes the text of at most 64 bytes, none of which is ill-formed, and returns its length. The
-/// mask `changed` has the characters that need conversion. Not inlined, since it has many callers.
+/// Writes the text of at most 64 bytes, none of which is ill-formed, and returns its length.
+/// `changed` is the mask of the characters that need conversion. It is not inlined, since it has
+/// many callers.
 #[inline(never)]
 fn write_well_formed<F: Flavor>(bytes: &[u8], changed: u64, out: &mut [u8]) -> usize
     requires short { length bytes.now ≤ LANES }

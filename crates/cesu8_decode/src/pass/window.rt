@@ -54,7 +54,8 @@ pub fn write_window<F: Flavor>(
     ensures written { WritesDecoded F.flavor strictness (window_of bytes.now) at result.read
         end out.old out.new result.end result.is_rejected }
     ensures boundary { is_boundary_at F.flavor (window_of bytes.now) (at + result.read) ≡ true }
-    ensures count { (count ≤ result.read) × (result.read ≤ count + READ_AFTER) × (result.read ≤ LANES) }
+    ensures count { (count ≤ result.read) × (result.read ≤ count + READ_AFTER)
+        × (result.read ≤ LANES) }
     ensures last { slice_index bytes.now (at + count) ≡ 0 → result.read ≡ count }
     ensures unchanged { result.is_unchanged ≡ true → result.is_rejected ≡ false }
 {

@@ -51,8 +51,9 @@ pub struct Pass {
     pub is_rejected: bool,
 }
 
-/// Continues the pass from a character boundary, while the buffer has space for another window's
-/// text. It stops at a window that strict decoding rejects. Not inlined, since it has many callers.
+/// Continues the pass from a character boundary, as long as the buffer has space for the text of
+/// another window. It stops at a window that strict decoding rejects. It is not inlined, since it
+/// has many callers.
 #[inline(never)]
 pub fn write_windows<F: Flavor>(
     bytes: &[u8],

@@ -17,8 +17,8 @@ macro_rules! rows {
     };
 }
 
-/// Row `dropped` drops byte `i` if bit `i` of `dropped` is set. Its last number is the count of bytes
-/// that are kept. The zeros between are part of the contract, and what they select is overwritten.
+/// Row `dropped` drops byte `i` if bit `i` of `dropped` is set. Its last number is the count of
+/// kept bytes. The zeros between are part of the contract, and what they select is overwritten.
 const ROWS: Rows = rows!([] []; 0 1 2 3 4 5 6 7);
 
 /// Returns a reference to the table: indexing the constant would copy it to the stack.
