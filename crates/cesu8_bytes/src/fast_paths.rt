@@ -25,12 +25,11 @@ use crate::flavor::Flavor;
 use crate::lanes::class::{AtLeastF0, Either, FourByteLead, InAllVectors, LANES, NonAscii, has};
 use crate::lanes::groups::InGroups;
 use crate::lanes::runs::lanes_before;
-use crate::lanes::search::{any_in_bytes, any_in_each, any_in_long};
+use crate::lanes::search::{any_in_bytes, any_in_bytes_or_call, any_in_each};
 use crate::lanes::short::{any_in_ends, are_short, end_vector};
 use std::simd::prelude::*;
 
-/// The largest input that is checked inline for unchanged ASCII. From this length on,
-/// `needs_encoded` searches four vectors at once.
+/// The largest input that is checked inline for unchanged ASCII.
 const CHECKED_INLINE: usize = 4 * LANES;
 
 /// The largest input that a lenient call checks inline for ASCII.
@@ -48,7 +47,7 @@ pub fn is_short_ascii(bytes: &[u8]) -> bool
     if !are_short(bytes) && has::<NonAscii, LANES>(u8x64::from_slice(bytes)) {
         return false;
     }
-    !any_in_bytes::<NonAscii>(bytes)
+    !any_in_bytes_or_call::<NonAscii>(bytes)
 }
 
 /// Returns whether there are at most 256 bytes, all of them unchanged ASCII: in MUTF-8 not 00.
@@ -92,19 +91,12 @@ pub fn begins_with_unchanged_ascii<F: Flavor>(bytes: &[u8], len: usize) -> bool
         && lanes_before::<Either<F::Null, NonAscii>, LANES>(Simd::from_slice(bytes)) >= len
 }
 
-/// Returns whether the encoding changes a character of the string. Both branches search in the same
-/// way. In the first one, the compiler leaves out the loop over four vectors at once, which saves
-/// 129 to 255 bytes five or six instructions.
+/// Returns whether the encoding changes a character of the string.
 #[inline(always)]
 pub fn needs_encoded<F: Flavor>(value: &str) -> bool
     ensures { IsTrue result ↔ NeedsEncoding F.flavor (chars value.now) }
 {
-    let bytes = value.as_bytes();
-    if bytes.len() < CHECKED_INLINE {
-        any_in_bytes::<Either<F::Null, FourByteLead>>(bytes)
-    } else {
-        any_in_long::<Either<F::Null, FourByteLead>>(bytes)
-    }
+    any_in_bytes_or_call::<Either<F::Null, FourByteLead>>(value.as_bytes())
 }
 
 /// Returns true if the encoding changes a character of the string. The contract allows it to return

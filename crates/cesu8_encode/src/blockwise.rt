@@ -10,7 +10,7 @@ ghost use Rattle.cesu8_text.specs.Encoding.{encoding};
 ghost use Rattle.cesu8_encode.specs.Encoded.{WritesEncoding};
 ghost use Rattle.cesu8_encode.specs.EncodedOffsets.{recoded, IsWritten, Writes};
 
-use super::blocks::{BLOCK_READ, READ_AFTER, READ_BEFORE, write_block, write_block_by_call};
+use super::blocks::{BLOCK_READ, READ_AFTER, READ_BEFORE, write_block_by_call};
 use super::middle_blocks::write_middle_block;
 use super::strategy::{is_block, middle_of};
 use cesu8_bytes::BLOCK;
@@ -32,7 +32,7 @@ pub fn write<F: Flavor>(text: &str, more: usize, out: &mut [u8]) -> usize
     let bytes = text.as_bytes();
     let mut window = [0; BLOCK_READ];
     copy_short(bytes, &mut window[READ_BEFORE..]);
-    write_block::<F>(&window, 0, bytes.len(), out, 0)
+    write_block_by_call::<F>(&window, bytes.len(), out, 0)
 }
 
 /// Like `write`, for a string of more than a block. Which strategy encodes the blocks depends on

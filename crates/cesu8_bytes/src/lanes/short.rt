@@ -11,9 +11,10 @@ use super::class::{InVectors, LANES, has};
 use crate::writing::offsets::put_lanes;
 use std::simd::prelude::*;
 
-/// From 1,024 bytes on, `copy_short` and `append` copy the slice as a whole, in larger steps. If
-/// the compiler cannot rule out that source and destination alias, the last bytes, up to 127, are
-/// copied one by one.
+/// The largest slice that `copy_short` and `append` copy vector by vector. They copy a longer one as
+/// a whole, in larger steps. If the compiler cannot rule out that source and destination alias, the
+/// last bytes, up to 127, are copied one by one. A fast path for at most as many bytes
+/// (`is_short_ascii`) is compiled without that code.
 pub(crate) const LONG: usize = 16 * LANES;
 
 /// Returns whether there are at most 64 bytes, which two vectors of one width up to 32 cover.
@@ -76,7 +77,7 @@ pub fn copy_short(bytes: &[u8], buf: &mut [u8])
     requires { length bytes.now ≤ length buf.old }
     ensures { buf.new ≡ bytes.now ++ drop (length bytes.now) buf.old }
 {
-    if bytes.len() >= LONG {
+    if bytes.len() > LONG {
         buf[..bytes.len()].copy_from_slice(bytes);
         return;
     }
