@@ -19,14 +19,12 @@ ghost use Rattle.std.specs.Prelude.{◌↔◌, IsTrue, Any, take};
 ghost use Rattle.std.specs.Str.{chars, IsAscii};
 ghost use Rattle.cesu8_text.specs.Class.{IsChangedByte};
 ghost use Rattle.cesu8_text.specs.Encoding.{NeedsEncoding};
-ghost use Rattle.cesu8_bytes.specs.Kernels.{AnyIn};
 
 use crate::flavor::Flavor;
-use crate::lanes::class::{AtLeastF0, Either, FourByteLead, InAllVectors, LANES, NonAscii, has};
-use crate::lanes::groups::InGroups;
+use crate::lanes::class::{AtLeastF0, Either, FourByteLead, LANES, NonAscii, has};
 use crate::lanes::runs::lanes_before;
-use crate::lanes::search::{any_in_bytes, any_in_bytes_or_call, any_in_each};
-use crate::lanes::short::{any_in_ends, are_short, end_vector};
+use crate::lanes::search::{any_in_bytes, any_in_bytes_or_call};
+use crate::lanes::short::are_short;
 use std::simd::prelude::*;
 
 /// The largest input that is checked inline for unchanged ASCII.
@@ -56,26 +54,7 @@ pub fn is_short_unchanged_ascii<F: Flavor>(bytes: &[u8]) -> bool
     ensures ascii { IsTrue result → IsAscii bytes.now }
     ensures unchanged { IsTrue result → ¬ (Any (IsChangedByte F.flavor) bytes.now) }
 {
-    bytes.len() <= CHECKED_INLINE && !any_in_vectors::<Either<F::Null, NonAscii>>(bytes)
-}
-
-/// Like `any_in_bytes`, without the loop over four vectors at once. That loop is not worth its code
-/// for at most `CHECKED_INLINE` bytes.
-#[inline(always)]
-fn any_in_vectors<C: InAllVectors + InGroups>(bytes: &[u8]) -> bool
-    ensures { IsTrue result ↔ AnyIn C.class bytes.now }
-{
-    // The tests of the length have the order of those in `copy_short`, so that the compiler joins
-    // them if a copy follows.
-    if are_short(bytes) {
-        return any_in_bytes::<C>(bytes);
-    }
-    if bytes.len() <= 2 * LANES {
-        return any_in_ends::<C, LANES>(bytes);
-    }
-    let (chunks, _) = bytes.as_chunks::<LANES>();
-    let end = end_vector::<LANES>(bytes);
-    any_in_each::<C, LANES>(chunks) || has::<C, LANES>(end)
+    bytes.len() <= CHECKED_INLINE && !any_in_bytes_or_call::<Either<F::Null, NonAscii>>(bytes)
 }
 
 /// Returns true only if the first `len` bytes are unchanged ASCII, `len` is at most 64, and the

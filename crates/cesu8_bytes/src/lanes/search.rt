@@ -4,7 +4,7 @@
 //! bytes at once, and its end by a vector that overlaps those before it, so no byte is left over.
 //!
 //! Everything that passes vectors is inlined: a call would pass them through memory. Most input is
-//! short, so fast paths search from 256 bytes on by a call (`any_in_bytes_or_call`).
+//! short, so fast paths search more than 256 bytes by a call (`any_in_bytes_or_call`).
 
 ghost use Rattle.std.specs.Prelude.{◌<◌, ◌≤◌, ◌↔◌, IsTrue, Any, length};
 ghost use Rattle.cesu8_bytes.specs.Kernels.{AnyIn};
@@ -14,9 +14,8 @@ use super::groups::InGroups;
 use super::short::{any_in_ends, are_short, by_two_vectors, end_vector};
 use std::simd::prelude::*;
 
-/// The shortest input that `any_in_bytes_or_call` searches by a call: four vectors, so that the loop
-/// over four at once runs.
-const BY_CALL: usize = 4 * LANES;
+/// The longest input that `any_in_bytes_or_call` searches inline.
+const INLINE: usize = 4 * LANES;
 
 /// Returns whether some byte is in the class.
 #[inline(always)]
@@ -43,16 +42,26 @@ pub fn any_in_long<C: InGroups>(bytes: &[u8]) -> bool
     any_in_chunks::<C>(chunks) || has::<C, LANES>(end)
 }
 
-/// Like `any_in_bytes`, but calls a function from `BY_CALL` bytes on. In the other branch, the
-/// compiler leaves out the loop over four vectors at once, which takes most of the code.
+/// Like `any_in_bytes`, but calls a function for more than 256 bytes: the loop over four vectors at
+/// once takes most of the code.
 #[inline(always)]
 pub fn any_in_bytes_or_call<C: InAllVectors + InGroups>(bytes: &[u8]) -> bool
     ensures { IsTrue result ↔ AnyIn C.class bytes.now }
 {
-    if bytes.len() < BY_CALL {
+    // The tests of the length have the order of those in `copy_short`, so that the compiler joins
+    // them if a copy follows.
+    if are_short(bytes) {
         return any_in_bytes::<C>(bytes);
     }
-    any_in_long_by_call::<C>(bytes)
+    if bytes.len() <= 2 * LANES {
+        return any_in_ends::<C, LANES>(bytes);
+    }
+    if bytes.len() > INLINE {
+        return any_in_long_by_call::<C>(bytes);
+    }
+    let (chunks, _) = bytes.as_chunks::<LANES>();
+    let end = end_vector::<LANES>(bytes);
+    any_in_each::<C, LANES>(chunks) || has::<C, LANES>(end)
 }
 
 /// Like `any_in_long`. It is not inlined, since it has many callers.

@@ -11,10 +11,9 @@ use super::class::{InVectors, LANES, has};
 use crate::writing::offsets::put_lanes;
 use std::simd::prelude::*;
 
-/// The largest slice that `copy_short` and `append` copy vector by vector. They copy a longer one as
-/// a whole, in larger steps. If the compiler cannot rule out that source and destination alias, the
-/// last bytes, up to 127, are copied one by one. A fast path for at most as many bytes
-/// (`is_short_ascii`) is compiled without that code.
+/// From 1,024 bytes on, `copy_short` and `append` copy the slice as a whole, in larger steps. If
+/// the compiler cannot rule out that source and destination alias, the last bytes, up to 127, are
+/// copied one by one.
 pub(crate) const LONG: usize = 16 * LANES;
 
 /// Returns whether there are at most 64 bytes, which two vectors of one width up to 32 cover.
@@ -77,8 +76,8 @@ pub fn copy_short(bytes: &[u8], buf: &mut [u8])
     requires { length bytes.now ≤ length buf.old }
     ensures { buf.new ≡ bytes.now ++ drop (length bytes.now) buf.old }
 {
-    if bytes.len() > LONG {
-        buf[..bytes.len()].copy_from_slice(bytes);
+    if bytes.len() >= LONG {
+        copy_long(bytes, buf);
         return;
     }
     if are_short(bytes) {
@@ -94,6 +93,16 @@ pub fn copy_short(bytes: &[u8], buf: &mut [u8])
     }
     let lanes: Simd<u8, LANES> = Simd::from_slice(&bytes[last..]);
     put_lanes(lanes, buf, last);
+}
+
+/// Copies bytes to the start of a buffer as a whole. It is not inlined, since the compiler's code for
+/// it is long.
+#[inline(never)]
+fn copy_long(bytes: &[u8], buf: &mut [u8])
+    requires { length bytes.now ≤ length buf.old }
+    ensures { buf.new ≡ bytes.now ++ drop (length bytes.now) buf.old }
+{
+    buf[..bytes.len()].copy_from_slice(bytes);
 }
 
 /// Copies bytes by one vector at the start and one at the end, which cover them all.

@@ -29,7 +29,7 @@ pub fn append(bytes: &[u8], out: &mut Vec<u8>)
     let mut taken = mem::replace(out, Vec::new(*out.allocator()));
     match bytes.len() {
         0..=LANES => append_short(bytes, &mut taken),
-        0..=LONG => append_vectors(bytes, &mut taken),
+        0..LONG => append_vectors(bytes, &mut taken),
         _ => append_each(bytes, &mut taken),
     }
     *out = taken;

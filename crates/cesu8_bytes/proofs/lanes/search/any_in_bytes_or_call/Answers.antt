@@ -4,7 +4,7 @@ use Rattle.std.proofs.Common.{ℕ, subst, ◌↔◌, IsTrue, ◌-◌, ◌*◌, �
 use Rattle.std.specs.List.{Any}
 use Rattle.cesu8_bytes.proofs.lists.Chunks.{found_in_chunks, left_by_chunks}
 use Rattle.cesu8_bytes.proofs.lists.Ends.{any_drop, any_later}
-use Rattle.cesu8_bytes.proofs.fast_paths.any_in_vectors.Goals as goal
+use Rattle.cesu8_bytes.proofs.lanes.search.any_in_bytes_or_call.Goals as goal
 
 pub returns-then-any_in_each : goal.returns-then-any_in_each
 returns-then-any_in_each g c =
