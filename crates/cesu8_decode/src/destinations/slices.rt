@@ -31,7 +31,7 @@ use cesu8_bytes::flavor::Flavor;
 use cesu8_bytes::lanes::class::LANES;
 use cesu8_bytes::lanes::short::{are_short, copy_short};
 use cesu8_bytes::strictness::{LossyReading, Reading, StrictReading, Strictness};
-use cesu8_bytes::writing::copies::NoRoom;
+use cesu8_bytes::writing::copies::{NoRoom, copy_to_slice};
 
 /// Writes the strictly decoded text to a caller's slice and returns its length. Returns an error if
 /// a byte is ill-formed or the slice is too short.
@@ -185,6 +185,17 @@ pub fn copy_by_call(bytes: &[u8], buf: &mut [u8]) -> Result<usize, NoRoom>
     }
     copy_short_by_call(bytes, buf);
     Ok(len)
+}
+
+/// Like `copy_to_slice`, but calls a function to copy more than 64 bytes.
+#[inline(always)]
+pub fn copy_short_or_call(bytes: &[u8], buf: &mut [u8]) -> Result<usize, NoRoom>
+    ensures { PutsAnswer bytes.now result buf.old buf.new }
+{
+    if are_short(bytes) {
+        return copy_to_slice(bytes, buf);
+    }
+    copy_by_call(bytes, buf)
 }
 
 /// Calls `copy_short`.

@@ -5,16 +5,15 @@
 //! them, which is copied. If the byte after a run begins none, or the last one is cut off, the
 //! input is ill-formed.
 
-ghost use Rattle.std.specs.Prelude.{◌≡◌, ◌+◌, ◌<◌, ◌≤◌, length, take, vec_len, vec_capacity, OnErr, IfOk};
+ghost use Rattle.std.specs.Prelude.{◌≡◌, ◌+◌, ◌<◌, ◌≤◌, length, vec_len, vec_capacity, OnErr, IfOk};
 ghost use Rattle.cesu8_text.specs.Reading.{HasNoStrictReading};
-ghost use Rattle.cesu8_bytes.specs.Puts.{Appends};
 ghost use Rattle.cesu8_bytes.specs.TextChunks.{IsReadSoFar};
 ghost use Rattle.cesu8_bytes.specs.declared.strictness.Strictness.TheVariants.{Strict};
 ghost use Rattle.cesu8_decode.specs.Decoding.{AppendsReading};
 ghost use Rattle.cesu8_decode.specs.Following.{Unchanged as AllUnchanged};
 ghost use Rattle.cesu8_decode.specs.Prefixes.{IsLongestPrefix, IsProperPrefix};
 
-use super::chunks::{append_by_call, append_chunks};
+use super::chunks::append_chunks;
 use crate::lanes::character_set::Unchanged;
 use crate::needs_conversion::{changes, first_eight};
 use crate::pass::short::{SHORT_STRICT, write_short};
@@ -64,7 +63,7 @@ pub fn append_many<F: Flavor>(bytes: &[u8], len: usize, before: Vec<u8>) -> Resu
         len = longest_prefix::<F, Unchanged>(rest);
         least = NEXT_RUN;
     }
-    append_by_call(rest, &mut text);
+    append(rest, &mut text);
     Ok(text)
 }
 
@@ -129,26 +128,11 @@ fn append_to_next<'a, F: Flavor>(
     if !changes::<F>(first) {
         return Err(NoText);
     }
-    append_prefix_or_call(bytes, len, out);
+    append_prefix(bytes, len, out);
     if first[0] == 0xC0 {
         append(&[0], out);
         return Ok(&after[2..]);
     }
     append(&utf8_of_pair(first), out);
     Ok(&after[PAIR..])
-}
-
-/// Like `append_prefix`, but appends more than 64 bytes by a call.
-#[inline(always)]
-fn append_prefix_or_call(bytes: &[u8], len: usize, out: &mut Vec<u8>)
-    requires lanes { LANES ≤ length bytes.now }
-    requires len { len ≤ length bytes.now }
-    requires room { vec_len out.old + length bytes.now ≤ vec_capacity out.old }
-    ensures { Appends (take len bytes.now) out.old out.new }
-{
-    if len > LANES {
-        append_by_call(&bytes[..len], out);
-        return;
-    }
-    append_prefix(bytes, len, out);
 }

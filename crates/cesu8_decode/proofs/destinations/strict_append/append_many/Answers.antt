@@ -73,11 +73,11 @@ returns g c =
     let inv = c.loop-len.invariant in
     let rest = c.loop-len.rest.now in
     let n = c.loop-len.len in
-    let prefix = c.append_by_call.ensures.bytes ∙ ap (λ bs. c.loop-len.text.items ++ bs) (sym (take_all n rest (omega (arith, c.loop-len-test.false)))) in
+    let prefix = c.append.ensures.bytes ∙ ap (λ bs. c.loop-len.text.items ++ bs) (sym (take_all n rest (omega (arith, c.loop-len-test.false)))) in
     record {
       text = none_left f Strict c.args.bytes.now (drop n rest) _ _
           (prefix_appended f rest n inv.prefix c.args.bytes.now _ _ _ inv.read prefix)
           (omega (arith, length-drop n rest, c.loop-len-test.false));
-      capacity = c.append_by_call.ensures.capacity ∙ inv.capacity;
+      capacity = c.append.ensures.capacity ∙ inv.capacity;
       none = tt;
     }

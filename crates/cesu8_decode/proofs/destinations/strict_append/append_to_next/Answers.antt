@@ -34,7 +34,7 @@ returns-then-first-clause-read g c =
     let same : IsPrefixOf rest first = rw take_rest at c.first_eight-first.ensures.prefix in
     let null = changed_null f first (c.changes.ensures.0 c.if-not-changes.false) c.if-first.true in
     rw (take_rest, take_rest) (more_read f Strict bytes rest _ _ _ _
-    (prefix_appended f bytes c.args.len c.requires.prefix.0 bytes before before c.append_prefix_or_call.new.out.items (nothing_read f Strict bytes before) c.append_prefix_or_call.ensures.bytes)
+    (prefix_appended f bytes c.args.len c.requires.prefix.0 bytes before before c.append_prefix.new.out.items (nothing_read f Strict bytes before) c.append_prefix.ensures.bytes)
     (seen_null_read f rest first same Strict _ _ null c.append.ensures.bytes))
 
 pub returns-clause-read : goal.returns-clause-read
@@ -47,7 +47,7 @@ returns-clause-read g c =
     let same : IsPrefixOf rest first = rw take_rest at c.first_eight-first.ensures.prefix in
     let pair = changed_pair f first (c.changes.ensures.0 c.if-not-changes.false) c.if-first.false in
     rw (take_rest, take_rest) (more_read f Strict bytes rest _ _ _ _
-    (prefix_appended f bytes c.args.len c.requires.prefix.0 bytes before before c.append_prefix_or_call.new.out.items (nothing_read f Strict bytes before) c.append_prefix_or_call.ensures.bytes)
+    (prefix_appended f bytes c.args.len c.requires.prefix.0 bytes before before c.append_prefix.new.out.items (nothing_read f Strict bytes before) c.append_prefix.ensures.bytes)
     (seen_pair_read f rest first same Strict _ _ pair c.utf8_of_pair.result c.utf8_of_pair.ensures c.append-2.ensures.bytes))
 
 -- If the prefix is not all bytes, fewer bytes are left after the next character.
@@ -61,10 +61,10 @@ pub returns-clause-within : goal.returns-clause-within
 returns-clause-within g c = simp take_rest (fewer_left 6 c.args.len c.args.bytes.now c.requires.prefix.1 (omega arith))
 
 pub returns-then-first-clause-capacity : goal.returns-then-first-clause-capacity
-returns-then-first-clause-capacity g c = c.append.ensures.capacity ∙ c.append_prefix_or_call.ensures.capacity
+returns-then-first-clause-capacity g c = c.append.ensures.capacity ∙ c.append_prefix.ensures.capacity
 
 pub returns-clause-capacity : goal.returns-clause-capacity
-returns-clause-capacity g c = c.append-2.ensures.capacity ∙ c.append_prefix_or_call.ensures.capacity
+returns-clause-capacity g c = c.append-2.ensures.capacity ∙ c.append_prefix.ensures.capacity
 
 -- The first eight bytes are padded with 00, so a character in them is in the bytes.
 null_within : (f : Flavor) (bytes prefix : List ℕ) → IsPrefixOf bytes prefix → null_at f (get_or prefix 0 0) (get_or prefix 1 0) ≡ true → 2 ≤ length bytes
@@ -88,7 +88,7 @@ append-requires-2 g c =
     let first = c.first_eight-first.result.now in
     let same : IsPrefixOf rest first = rw take_rest at c.first_eight-first.ensures.prefix in
     let inside = (pair_by_prefix rest first same (changed_pair f first (c.changes.ensures.0 c.if-not-changes.false) c.if-first.false)).0 in
-    let front = c.append_prefix_or_call.ensures in
+    let front = c.append_prefix.ensures in
     omega (arith, inside, front.len, front.capacity, length-take-le c.args.len bytes c.requires.prefix.0.within, length-drop c.args.len bytes, c.requires.room)
 
 pub slice_bounds-result-start-2 : goal.slice_bounds-result-start-2
