@@ -60,8 +60,8 @@ pub fn any_in_bytes_or_call<C: InAllVectors + InGroups>(bytes: &[u8]) -> bool
         return any_in_long_by_call::<C>(bytes);
     }
     let (chunks, _) = bytes.as_chunks::<LANES>();
-    let end = end_vector::<LANES>(bytes);
-    any_in_each::<C, LANES>(chunks) || has::<C, LANES>(end)
+    let last = end_vector::<LANES>(bytes);
+    any_in_each::<C, LANES>(chunks) || has::<C, LANES>(last)
 }
 
 /// Like `any_in_long`. It is not inlined, since it has many callers.
