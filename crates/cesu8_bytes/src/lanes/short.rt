@@ -95,8 +95,7 @@ pub fn copy_short(bytes: &[u8], buf: &mut [u8])
     put_lanes(lanes, buf, last);
 }
 
-/// Copies bytes to the start of a buffer as a whole. It is not inlined, since the compiler's code for
-/// it is long.
+/// Copies bytes to the start of a buffer as a whole. It is not inlined, since its code is long.
 #[inline(never)]
 fn copy_long(bytes: &[u8], buf: &mut [u8])
     requires { length bytes.now ≤ length buf.old }
