@@ -12,24 +12,22 @@
 //! | none | does any byte change in the encoding? | encoding |
 //!
 //! "Unchanged" means that the byte is the same in UTF-8 and in the encoding: in CESU-8 all ASCII
-//! is, in MUTF-8 all but 00. `cesu8_encode` also chooses by length, up to a block.
+//! is, in MUTF-8 all but 00. Encoding also chooses by length, up to a block: `cesu8_encode` does
+//! that.
 
 ghost use Rattle.std.specs.Prelude.{◌↔◌, IsTrue, Any, take};
 ghost use Rattle.std.specs.Str.{chars, IsAscii};
 ghost use Rattle.cesu8_text.specs.Class.{IsChangedByte};
 ghost use Rattle.cesu8_text.specs.Encoding.{NeedsEncoding};
-ghost use Rattle.cesu8_bytes.specs.Kernels.{AnyIn};
 
 use crate::flavor::Flavor;
-use crate::lanes::class::{AtLeastF0, Either, FourByteLead, InAllVectors, LANES, NonAscii, has};
-use crate::lanes::groups::InGroups;
+use crate::lanes::class::{AtLeastF0, Either, FourByteLead, LANES, NonAscii, has};
 use crate::lanes::runs::lanes_before;
-use crate::lanes::search::{any_in_bytes, any_in_each, any_in_long};
-use crate::lanes::short::{any_in_ends, are_short, end_vector};
+use crate::lanes::search::{any_in_bytes, any_in_bytes_or_call};
+use crate::lanes::short::are_short;
 use std::simd::prelude::*;
 
-/// The largest input that is checked inline for unchanged ASCII. From this length on,
-/// `needs_encoded` searches four vectors at once.
+/// The largest input that is checked inline for unchanged ASCII.
 const CHECKED_INLINE: usize = 4 * LANES;
 
 /// The largest input that a lenient call checks inline for ASCII.
@@ -47,7 +45,7 @@ pub fn is_short_ascii(bytes: &[u8]) -> bool
     if !are_short(bytes) && has::<NonAscii, LANES>(u8x64::from_slice(bytes)) {
         return false;
     }
-    !any_in_bytes::<NonAscii>(bytes)
+    !any_in_bytes_or_call::<NonAscii>(bytes)
 }
 
 /// Returns whether there are at most 256 bytes, all of them unchanged ASCII: in MUTF-8 not 00.
@@ -56,25 +54,7 @@ pub fn is_short_unchanged_ascii<F: Flavor>(bytes: &[u8]) -> bool
     ensures ascii { IsTrue result → IsAscii bytes.now }
     ensures unchanged { IsTrue result → ¬ (Any (IsChangedByte F.flavor) bytes.now) }
 {
-    bytes.len() <= CHECKED_INLINE && !any_in_vectors::<Either<F::Null, NonAscii>>(bytes)
-}
-
-/// Like `any_in_bytes`, without the loop over four vectors at once. That loop is not worth its code
-/// for at most `CHECKED_INLINE` bytes.
-#[inline(always)]
-fn any_in_vectors<C: InAllVectors + InGroups>(bytes: &[u8]) -> bool
-    ensures { IsTrue result ↔ AnyIn C.class bytes.now }
-{
-    // The lengths are tested in the order of `copy_short`, so a copy that follows shares the tests.
-    if are_short(bytes) {
-        return any_in_bytes::<C>(bytes);
-    }
-    if bytes.len() <= 2 * LANES {
-        return any_in_ends::<C, LANES>(bytes);
-    }
-    let (chunks, _) = bytes.as_chunks::<LANES>();
-    let end = end_vector::<LANES>(bytes);
-    any_in_each::<C, LANES>(chunks) || has::<C, LANES>(end)
+    bytes.len() <= CHECKED_INLINE && !any_in_bytes_or_call::<Either<F::Null, NonAscii>>(bytes)
 }
 
 /// Returns true only if the first `len` bytes are unchanged ASCII, `len` is at most 64, and the
@@ -90,19 +70,12 @@ pub fn begins_with_unchanged_ascii<F: Flavor>(bytes: &[u8], len: usize) -> bool
         && lanes_before::<Either<F::Null, NonAscii>, LANES>(Simd::from_slice(bytes)) >= len
 }
 
-/// Returns whether the encoding changes a character of the string. Both branches search in the same
-/// way. In the first one, the compiler leaves out the loop over four vectors at once, which saves
-/// 129 to 255 bytes five or six instructions.
+/// Returns whether the encoding changes a character of the string.
 #[inline(always)]
 pub fn needs_encoded<F: Flavor>(value: &str) -> bool
     ensures { IsTrue result ↔ NeedsEncoding F.flavor (chars value.now) }
 {
-    let bytes = value.as_bytes();
-    if bytes.len() < CHECKED_INLINE {
-        any_in_bytes::<Either<F::Null, FourByteLead>>(bytes)
-    } else {
-        any_in_long::<Either<F::Null, FourByteLead>>(bytes)
-    }
+    any_in_bytes_or_call::<Either<F::Null, FourByteLead>>(value.as_bytes())
 }
 
 /// Returns true if the encoding changes a character of the string. The contract allows it to return

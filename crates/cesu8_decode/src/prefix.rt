@@ -76,7 +76,8 @@ fn following_many<F: Flavor, S: CharacterSet>(bytes: &[u8]) -> usize
 }
 
 /// Like `following_many`, if the bytes up to `start` are known to follow each other. It tests two
-/// blocks at once, and then one block at a time. The last block overlaps the one before it.
+/// blocks at once, and then one block at a time. The last block may overlap the one before it, so
+/// that it is whole.
 #[inline(always)]
 fn following_from<F: Flavor, S: CharacterSet>(bytes: &[u8], start: usize) -> usize
     requires first { FirstFollow S.set F.flavor bytes.now start }
@@ -84,21 +85,17 @@ fn following_from<F: Flavor, S: CharacterSet>(bytes: &[u8], start: usize) -> usi
     ensures { FollowUpTo S.set F.flavor bytes.now result }
 {
     let mut at = following_twos::<F, S>(bytes, start);
-    while bytes.len() - at >= BLOCK {
-        let block = u8x32::from_slice(&bytes[at..]);
-        let len = following_len::<F, S>(S::block_at(block, bytes, at));
+    while at < bytes.len() {
+        let from = at.min(bytes.len() - BLOCK);
+        let block = u8x32::from_slice(&bytes[from..]);
+        let len = following_len::<F, S>(S::block_at(block, bytes, from));
         if len != BLOCK {
-            return at + len;
+            return from + len;
         }
-        // This is `at + len`, but the next block need not wait for `len`.
-        at += BLOCK;
+        // This is `from + len`, but the next block need not wait for `len`.
+        at = from + BLOCK;
     }
-    if at == bytes.len() {
-        return at;
-    }
-    let last = bytes.len() - BLOCK;
-    let block = u8x32::from_slice(&bytes[last..]);
-    last + following_len::<F, S>(S::block_at(block, bytes, last))
+    at
 }
 
 /// Returns an offset up to which every byte can follow the bytes before it. It tests two blocks at

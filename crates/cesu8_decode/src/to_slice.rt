@@ -3,7 +3,7 @@
 ghost use Rattle.cesu8_decode.specs.Modes.{Reads, ReadsLossily};
 ghost use Rattle.cesu8_decode.specs.PutReadings.{PutsText, ReadsAs};
 
-use crate::destinations::slices::{copy_by_call, put_lossily, put_strictly};
+use crate::destinations::slices::{copy_by_call, copy_short_or_call, put_lossily, put_strictly};
 use crate::error::WriteError;
 use crate::modes::{Accepts, Mode, prefix_in_mode};
 use crate::prefix::unchanged_prefix;
@@ -43,7 +43,7 @@ fn decode_other_to_slice<F: Flavor, S: Reading>(
     // Both modes return input unchanged in which nothing needs conversion, so this is tested first.
     let unchanged = unchanged_prefix::<F>(bytes);
     if unchanged.len == bytes.len() {
-        return copy_to_slice(bytes, buf).map_err(WriteError::NoRoom);
+        return copy_short_or_call(bytes, buf).map_err(WriteError::NoRoom);
     }
     let prefix = prefix_in_mode::<F>(bytes, unchanged, mode);
     if prefix.len == bytes.len() {

@@ -12,7 +12,7 @@ ghost use Rattle.cesu8_text.specs.Patterns.{IsContinuation};
 use crate::lanes::padded::padded;
 use crate::strategy::is_one_block;
 use cesu8_bytes::lanes::class::{LANES, NonAscii};
-use cesu8_bytes::lanes::search::any_in_bytes;
+use cesu8_bytes::lanes::search::any_in_bytes_or_call;
 use simdutf8::Checker;
 use std::simd::prelude::*;
 
@@ -33,7 +33,7 @@ pub fn is_utf8_by_parts(bytes: &[u8]) -> bool
         return false;
     }
     // Often one character of four bytes is followed by ASCII alone, which needs no `Checker`.
-    if !any_in_bytes::<NonAscii>(&bytes[first..]) {
+    if !any_in_bytes_or_call::<NonAscii>(&bytes[first..]) {
         return true;
     }
     are_parts_utf8(&bytes[first..])

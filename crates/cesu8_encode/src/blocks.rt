@@ -57,6 +57,22 @@ pub fn write_block<F: Flavor>(
     write_lanes(&block, count, out, end)
 }
 
+/// Like `write_block`, for a window of one block. It is not inlined, since it has several callers.
+#[inline(never)]
+pub fn write_block_by_call<F: Flavor>(
+    window: &[u8],
+    count: usize,
+    out: &mut [u8],
+    end: usize,
+) -> usize
+    requires window { BLOCK_READ ≤ length window.now }
+    requires count { count ≤ BLOCK }
+    requires room { end + length (encoded_bytes F.flavor window.now 0 count) ≤ length out.old }
+    ensures { WritesAt (encoded_bytes F.flavor window.now 0 count) end out.old out.new result }
+{
+    write_block::<F>(window, 0, count, out, end)
+}
+
 /// Returns true only if the block is unchanged, whatever byte follows it.
 #[inline(always)]
 pub fn is_unchanged<F: Flavor>(window: &[u8], at: usize) -> bool

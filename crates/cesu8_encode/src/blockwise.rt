@@ -9,16 +9,16 @@ ghost use Rattle.cesu8_text.specs.Encoding.{encoding};
 ghost use Rattle.cesu8_encode.specs.Encoded.{WritesEncoding};
 ghost use Rattle.cesu8_encode.specs.EncodedOffsets.{recoded, IsWritten, Writes};
 
-use super::blocks::{BLOCK_READ, READ_AFTER, READ_BEFORE, write_block};
-use super::middle_blocks::{AnyChange, BlockWriter, CopyUnchanged, NullChange};
-use super::strategy::{Middle, is_block, middle_of};
+use super::blocks::{BLOCK_READ, READ_AFTER, READ_BEFORE, write_block_by_call};
+use super::middle_blocks::write_middle_block;
+use super::strategy::{is_block, middle_of};
 use cesu8_bytes::BLOCK;
 use cesu8_bytes::flavor::Flavor;
 use cesu8_bytes::lanes::short::copy_short;
 
 /// Writes the encoding of a string, and returns its length. `more` is the number of bytes by which
-/// the encoding is longer than the string, or 0 if that is not known. The function is inlined: for
-/// an array on the stack, the compiler removes the test whether the rows of a block fit.
+/// the encoding is longer than the string, or 0 if that is not known. The function is inlined, so
+/// that a caller that knows the length does not test it again.
 #[inline(always)]
 pub fn write<F: Flavor>(text: &str, more: usize, out: &mut [u8]) -> usize
     requires { length (encoding F.flavor (chars text.now)) ≤ length out.old }
@@ -30,7 +30,7 @@ pub fn write<F: Flavor>(text: &str, more: usize, out: &mut [u8]) -> usize
     let bytes = text.as_bytes();
     let mut window = [0; BLOCK_READ];
     copy_short(bytes, &mut window[READ_BEFORE..]);
-    write_block::<F>(&window, 0, bytes.len(), out, 0)
+    write_block_by_call::<F>(&window, bytes.len(), out, 0)
 }
 
 /// Like `write`, for more than a block. `more` only decides which strategy encodes the blocks.
@@ -57,7 +57,7 @@ fn write_first_block<F: Flavor>(text: &[u8], out: &mut [u8]) -> usize
     let mut window = [0; BLOCK_READ];
     // Zeros stand for the bytes before the block.
     window[READ_BEFORE..].copy_from_slice(&text[..BLOCK + READ_AFTER]);
-    write_block::<F>(&window, 0, BLOCK, out, 0)
+    write_block_by_call::<F>(&window, BLOCK, out, 0)
 }
 
 /// Encodes the blocks between the first and the last, and returns the end of what it wrote. The
@@ -80,31 +80,10 @@ fn write_middle<F: Flavor>(
         // The last block follows the first one, so testing the string gains nothing.
         return start;
     }
-    match middle_of::<F>(text, more, blocks) {
-        Middle::CopyUnchanged => write_middle_by::<F, CopyUnchanged>(text, blocks, out, start),
-        Middle::NullChange => write_middle_by::<F, NullChange>(text, blocks, out, start),
-        Middle::AnyChange => write_middle_by::<F, AnyChange>(text, blocks, out, start),
-    }
-}
-
-/// Like `write_middle`, by the strategy `W`. `W::write` is inlined, so each strategy has a loop of
-/// its own that does not test which strategy it is.
-#[inline(always)]
-fn write_middle_by<F: Flavor, W: BlockWriter>(
-    text: &[u8],
-    blocks: usize,
-    out: &mut [u8],
-    start: usize,
-) -> usize
-    requires known { W.knows text.now }
-    requires blocks { (0 < blocks) × (BLOCK * blocks < length text.now) }
-    requires room { length (recoded F.flavor text.now) ≤ length out.old }
-    requires first { IsWritten F.flavor text.now BLOCK out.old start }
-    ensures { Writes F.flavor text.now (BLOCK * blocks) out.old out.new result }
-{
+    let middle = middle_of::<F>(text, more, blocks);
     let mut end = start;
     for i in 1..blocks {
-        end = W::write::<F>(text, BLOCK * i - READ_BEFORE, out, end);
+        end = write_middle_block::<F>(text, BLOCK * i - READ_BEFORE, middle, out, end);
     }
     end
 }
@@ -121,5 +100,5 @@ fn write_last_block<F: Flavor>(text: &[u8], at: usize, out: &mut [u8], end: usiz
     // Zeros stand for the bytes after the block.
     let near = &text[at - READ_BEFORE..];
     window[..near.len()].copy_from_slice(near);
-    write_block::<F>(&window, 0, text.len() - at, out, end)
+    write_block_by_call::<F>(&window, text.len() - at, out, end)
 }

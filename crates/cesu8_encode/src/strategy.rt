@@ -65,11 +65,16 @@ pub fn is_for_stack(text: &str) -> bool
     text.len() <= ON_STACK
 }
 
-/// A strategy for the blocks between the first and the last. Each is a type of `middle_blocks`.
+/// A strategy for the blocks between the first and the last.
 #[derive(Clone, Copy)]
 pub enum Middle {
+    /// Copies a block if no byte of it changes, nor one of the two before it. Most text has runs of
+    /// these.
     CopyUnchanged,
+    /// Encodes null characters only. No other byte changes, since no byte is F0 or more
+    /// (hexadecimal).
     NullChange,
+    /// Encodes each block, whatever changes in it.
     AnyChange,
 }
 

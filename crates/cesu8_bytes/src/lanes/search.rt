@@ -3,7 +3,8 @@
 //! Two vectors of equal width cover at most 128 bytes. Longer input is tested by four vectors of 64
 //! bytes at once, and its end by a vector that overlaps those before it, so no byte is left over.
 //!
-//! Everything is inlined: a call would pass vectors through memory, and most input is short.
+//! Everything that passes vectors is inlined: a call would pass them through memory. Most input is
+//! short, so fast paths search more than 256 bytes by a call (`any_in_bytes_or_call`).
 
 ghost use Rattle.std.specs.Prelude.{◌<◌, ◌≤◌, ◌↔◌, IsTrue, Any, length};
 ghost use Rattle.cesu8_bytes.specs.Kernels.{AnyIn};
@@ -12,6 +13,9 @@ use super::class::{InAllVectors, InVectors, LANES, has};
 use super::groups::InGroups;
 use super::short::{any_in_ends, are_short, by_two_vectors, end_vector};
 use std::simd::prelude::*;
+
+/// The longest input that `any_in_bytes_or_call` searches inline.
+const INLINE: usize = 4 * LANES;
 
 /// Returns whether some byte is in the class.
 #[inline(always)]
@@ -36,6 +40,37 @@ pub fn any_in_long<C: InGroups>(bytes: &[u8]) -> bool
     let (chunks, _) = bytes.as_chunks::<LANES>();
     let end = end_vector::<LANES>(bytes);
     any_in_chunks::<C>(chunks) || has::<C, LANES>(end)
+}
+
+/// Like `any_in_bytes`, but calls a function for more than 256 bytes: the loop over four vectors at
+/// once takes most of the code.
+#[inline(always)]
+pub fn any_in_bytes_or_call<C: InAllVectors + InGroups>(bytes: &[u8]) -> bool
+    ensures { IsTrue result ↔ AnyIn C.class bytes.now }
+{
+    // The tests of the length have the order of those in `copy_short`, so that the compiler joins
+    // them if a copy follows.
+    if are_short(bytes) {
+        return any_in_bytes::<C>(bytes);
+    }
+    if bytes.len() <= 2 * LANES {
+        return any_in_ends::<C, LANES>(bytes);
+    }
+    if bytes.len() > INLINE {
+        return any_in_long_by_call::<C>(bytes);
+    }
+    let (chunks, _) = bytes.as_chunks::<LANES>();
+    let last = end_vector::<LANES>(bytes);
+    any_in_each::<C, LANES>(chunks) || has::<C, LANES>(last)
+}
+
+/// Like `any_in_long`. It is not inlined, since it has many callers.
+#[inline(never)]
+fn any_in_long_by_call<C: InGroups>(bytes: &[u8]) -> bool
+    requires { LANES < length bytes.now }
+    ensures { IsTrue result ↔ AnyIn C.class bytes.now }
+{
+    any_in_long::<C>(bytes)
 }
 
 /// Returns whether some byte of the chunks is in the class, testing four chunks at once.

@@ -75,7 +75,7 @@ pub fn copy_short(bytes: &[u8], buf: &mut [u8])
     ensures { buf.new ≡ bytes.now ++ drop (length bytes.now) buf.old }
 {
     if bytes.len() >= LONG {
-        buf[..bytes.len()].copy_from_slice(bytes);
+        copy_long(bytes, buf);
         return;
     }
     if are_short(bytes) {
@@ -91,6 +91,15 @@ pub fn copy_short(bytes: &[u8], buf: &mut [u8])
     }
     let lanes: Simd<u8, LANES> = Simd::from_slice(&bytes[last..]);
     put_lanes(lanes, buf, last);
+}
+
+/// Copies bytes to the start of a buffer as a whole. It is not inlined, since its code is long.
+#[inline(never)]
+fn copy_long(bytes: &[u8], buf: &mut [u8])
+    requires { length bytes.now ≤ length buf.old }
+    ensures { buf.new ≡ bytes.now ++ drop (length bytes.now) buf.old }
+{
+    buf[..bytes.len()].copy_from_slice(bytes);
 }
 
 /// Copies bytes by one vector at the start and one at the end, which cover them all.

@@ -4,7 +4,7 @@ use Rattle.std.specs.List.{range_with_len}
 use Rattle.std.proofs.lemmas.Bool.Decides.{nat_tests}
 use Rattle.std.proofs.lemmas.List.Sums.{sum_by-cons}
 use Rattle.std.proofs.lemmas.Bool.{cases_lt}
-use Rattle.std.proofs.lemmas.List.{get_or_past, get_or_append_left, get_or-append_right, get_or-replicate, length-replicate, length-drop, get_or-drop, drop-drop}
+use Rattle.std.proofs.lemmas.List.{get_or_past, get_or_append_left, get_or-append_right, get_or-replicate, length-replicate, length-drop, get_or-drop, drop-drop, drop_all}
 use Rattle.std.proofs.lemmas.List.FromFn.{length-range_with_len}
 use Rattle.std.proofs.lemmas.Simd.{get_or-chunk, length-chunk}
 use lib.Lanes.{mask_l, chunk}
@@ -183,3 +183,14 @@ module _ (f : Flavor) (bytes : List ℕ) where
       let here = saved_agrees f rest bytes 0 at n (λ k small. ap (λ i. get_or rest i 0) (zero-add k) ∙ get_or-drop at bytes k 0) in
       let there = ap (total_saved f) (drop-drop n at bytes) in
       omega (arith, parts, here, there)
+
+  -- The next n offsets of a vector, which begins at the offset, and those after them.
+  pub saved_next_in_chunk : (at n : ℕ) → n + 5 ≤ 64 → at + n ≤ length bytes →
+      total_saved f (drop at bytes) ≡ saved_between f (chunk at 64 bytes) 0 n + total_saved f (drop (at + n) bytes)
+  saved_next_in_chunk at n few fits =
+      omega (arith, saved_next at n fits, saved_in_chunk at n few)
+
+  -- After the last offset nothing is saved.
+  pub saved_past : (n : ℕ) → length bytes ≤ n → total_saved f (drop n bytes) ≡ 0
+  unfolding total_saved
+  saved_past n past = ap (total_saved f) (drop_all n bytes past)

@@ -6,7 +6,7 @@
 //! that decoding succeeds: strict decoding validates all bytes, and also counts the length if the
 //! slice is shorter than the input. Lossy decoding always counts the length.
 
-ghost use Rattle.std.specs.Prelude.{◌+◌, ◌≤◌, ◌<◌, length};
+ghost use Rattle.std.specs.Prelude.{◌≡◌, ◌+◌, ◌≤◌, ◌<◌, ◌++◌, length, drop};
 ghost use Rattle.cesu8_text.specs.Reading.{reading};
 ghost use Rattle.cesu8_bytes.specs.Puts.{PutsAnswer};
 ghost use Rattle.cesu8_bytes.specs.declared.strictness.Strictness.TheVariants.{Strict, Lossy};
@@ -75,7 +75,7 @@ fn put_after_prefix<F: Flavor>(
     let start = prefix.min(buf.len());
     match put_by_strategy::<F>(rest, &mut buf[start..]) {
         Ok(len) => {
-            copy_short(&bytes[..prefix], buf);
+            copy_short_by_call(&bytes[..prefix], buf);
             Ok(prefix + len)
         }
         Err(WriteError::NoRoom(no_room)) => Err(WriteError::NoRoom(NoRoom {
@@ -153,7 +153,7 @@ fn put_short<F: Flavor, S: Reading, const WRITTEN: usize>(
     let Ok(end) = write_short::<F, S>(bytes, prefix, &mut written) else {
         return Err(WriteError::NoText);
     };
-    copy_to_slice(&written[..end], buf).map_err(WriteError::NoRoom)
+    copy_by_call(&written[..end], buf).map_err(WriteError::NoRoom)
 }
 
 /// Writes the decoded text to an array that is long enough for it, and copies it from there. It is
@@ -173,13 +173,38 @@ fn put_by_array<F: Flavor, S: Reading, const WRITTEN: usize>(
     copy_by_call(&written[..end], buf).map_err(WriteError::NoRoom)
 }
 
-/// Calls `copy_to_slice`, whose code for each length is long. After more than 64 bytes were read, a
-/// call takes little beside the decoding.
-#[inline(never)]
+/// Like `copy_to_slice`, but calls a function to copy, since the code for each length is long.
+/// Beside the decoding, a call takes little.
+#[inline(always)]
 pub fn copy_by_call(bytes: &[u8], buf: &mut [u8]) -> Result<usize, NoRoom>
     ensures { PutsAnswer bytes.now result buf.old buf.new }
 {
-    copy_to_slice(bytes, buf)
+    let len = bytes.len();
+    if buf.len() < len {
+        return Err(NoRoom { needed: len });
+    }
+    copy_short_by_call(bytes, buf);
+    Ok(len)
+}
+
+/// Like `copy_to_slice`, but calls a function to copy more than 64 bytes.
+#[inline(always)]
+pub fn copy_short_or_call(bytes: &[u8], buf: &mut [u8]) -> Result<usize, NoRoom>
+    ensures { PutsAnswer bytes.now result buf.old buf.new }
+{
+    if are_short(bytes) {
+        return copy_to_slice(bytes, buf);
+    }
+    copy_by_call(bytes, buf)
+}
+
+/// Calls `copy_short`.
+#[inline(never)]
+fn copy_short_by_call(bytes: &[u8], buf: &mut [u8])
+    requires { length bytes.now ≤ length buf.old }
+    ensures { buf.new ≡ bytes.now ++ drop (length bytes.now) buf.old }
+{
+    copy_short(bytes, buf);
 }
 
 /// Writes the decoded text of more bytes by `put_chunks`. In strict decoding it first validates the

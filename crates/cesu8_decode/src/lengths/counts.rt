@@ -6,37 +6,67 @@
 ghost use Rattle.std.specs.Prelude.{◌≡◌, ◌+◌, ◌-◌, ◌*◌, ◌<◌, ◌≤◌, length, drop};
 ghost use Rattle.cesu8_decode.specs.DecodedOffsets.{total_saved, saved_between};
 
-use crate::lanes::masks::masks_of;
+use crate::lanes::masks::{STEP, masks_of};
 use crate::lanes::padded::padded;
-use crate::strategy::is_one_block;
 use cesu8_bytes::BLOCK;
 use cesu8_bytes::flavor::Flavor;
 use cesu8_bytes::lanes::class::LANES;
 use cesu8_bytes::lanes::padded::padded_half;
 use std::simd::prelude::*;
 
-/// Returns what at most 64 bytes save.
+/// Returns what the bytes of at most one block save.
 #[inline(always)]
 #[tactic(auto, using(crate::proofs::decoder::MaskReturns::saved_with_zeros))]
-pub fn saved_in_short<F: Flavor>(bytes: &[u8]) -> usize
-    requires { length bytes.now ≤ LANES }
+pub fn saved_in_block<F: Flavor>(bytes: &[u8]) -> usize
+    requires { length bytes.now ≤ BLOCK }
     ensures { result ≡ total_saved F.flavor bytes.now }
 {
-    if is_one_block(bytes) {
-        return saved_by_lanes::<F, BLOCK>(padded_half(bytes), 0, bytes.len());
-    }
-    saved_by_lanes::<F, LANES>(padded(bytes), 0, bytes.len())
+    saved_by_lanes::<F, BLOCK>(padded_half(bytes), 0, bytes.len())
 }
 
-/// Returns what the last `count` offsets save, from a vector of the last 64 bytes.
+/// A vector of bytes, and which of its offsets are to be counted: `count` of them, after the first
+/// `counted`.
+#[derive(Drop)]
+pub struct Offsets {
+    pub lanes: u8x64,
+    pub counted: usize,
+    pub count: usize,
+}
+
+/// Returns a vector for the next offsets, from `at` on: for `STEP` of them, or for all that are
+/// left if these are at most 64. One loop over such vectors takes less code than a count of its own
+/// for the last bytes.
 #[inline(always)]
-#[tactic(auto, using(crate::proofs::decoder::MaskCounts::saved_in_last))]
-pub fn saved_by_last<F: Flavor>(bytes: &[u8], count: usize) -> usize
-    requires { (0 < count) × (count ≤ LANES) × (LANES ≤ length bytes.now) }
-    ensures { result ≡ total_saved F.flavor (drop (length bytes.now - count) bytes.now) }
+#[tactic(auto)]
+pub fn next_offsets<F: Flavor>(bytes: &[u8], at: usize) -> Offsets
+    requires { at < length bytes.now }
+    ensures lanes { (result.counted + result.count ≤ LANES) × (result.counted < LANES) }
+    ensures count { (0 < result.count) × (at + result.count ≤ length bytes.now) }
+    ensures saved { total_saved F.flavor (drop at bytes.now)
+        ≡ saved_between F.flavor result.lanes result.counted result.count
+        + total_saved F.flavor (drop (at + result.count) bytes.now) }
 {
-    let lanes = u8x64::from_slice(&bytes[bytes.len() - LANES..]);
-    saved_by_lanes::<F, LANES>(lanes, LANES - count, count)
+    let left = bytes.len() - at;
+    if left > LANES {
+        return Offsets {
+            lanes: u8x64::from_slice(&bytes[at..]),
+            counted: 0,
+            count: STEP,
+        };
+    }
+    if bytes.len() < LANES {
+        return Offsets {
+            lanes: padded(&bytes[at..]),
+            counted: 0,
+            count: left,
+        };
+    }
+    // The last 64 bytes, of which some may be counted already.
+    Offsets {
+        lanes: u8x64::from_slice(&bytes[bytes.len() - LANES..]),
+        counted: LANES - left,
+        count: left,
+    }
 }
 
 /// Returns what `count` offsets save, after the first `counted`, as if zeros followed the lanes.

@@ -7,7 +7,7 @@
 ghost use Rattle.std.specs.Prelude.{◌≡◌, ◌+◌, ◌*◌, ◌<◌, ◌≤◌, true, false, length, take, drop, replicate};
 ghost use Rattle.cesu8_text.specs.Text.{utf8};
 ghost use Rattle.cesu8_bytes.specs.Puts.{WritesAt};
-ghost use Rattle.cesu8_bytes.specs.declared.strictness.Strictness.TheVariants.{Strict};
+ghost use Rattle.cesu8_bytes.specs.declared.strictness.Strictness.TheVariants.{Lossy, Strict};
 ghost use Rattle.cesu8_decode.specs.DecodedOffsets.{decoded, window_of, width_at};
 ghost use Rattle.cesu8_decode.specs.Decoding.{most_written};
 ghost use Rattle.cesu8_decode.specs.Masks.{HoldWindow, is_null_at, is_pair_at};
@@ -50,7 +50,6 @@ const MANY_RUNS: u32 = 5;
 /// Writes the text of a window, and returns its end. The window begins at a character boundary. In
 /// strict decoding it has no ill-formed byte.
 #[inline(always)]
-#[tactic(auto, using(std::proofs::lemmas::Nat::le_or_l, std::proofs::lemmas::Nat::le_or_r))]
 pub fn write_events<F: Flavor, S: Reading>(
     bytes: &[u8],
     at: usize,
@@ -64,13 +63,32 @@ pub fn write_events<F: Flavor, S: Reading>(
     ensures { WritesAt (decoded F.flavor (window_of bytes.now) at window.len)
         end out.old out.new result }
 {
-    let changed = window.pairs | window.nulls;
     if window.ill_formed == 0 {
         if window.pairs == 0 && window.nulls.count_ones() >= MANY_NULLS {
             return write_nulls::<F>(bytes, at, window, out, end);
         }
         return write_in_turn::<F, StrictReading>(bytes, at, window, out, end);
     }
+    write_ill_formed_events::<F>(bytes, at, window, out, end)
+}
+
+/// Like `write_events` in lossy decoding, for a window that has ill-formed bytes. It is correct for
+/// any window, but has no faster code for one without.
+#[inline(always)]
+#[tactic(auto, using(std::proofs::lemmas::Nat::le_or_l, std::proofs::lemmas::Nat::le_or_r))]
+pub fn write_ill_formed_events<F: Flavor>(
+    bytes: &[u8],
+    at: usize,
+    window: Window,
+    out: &mut [u8],
+    end: usize,
+) -> usize
+    requires window { HoldWindow F.flavor bytes.now at window }
+    requires room { end + most_written Lossy LANES + STORED_AFTER ≤ length out.old }
+    ensures { WritesAt (decoded F.flavor (window_of bytes.now) at window.len)
+        end out.old out.new result }
+{
+    let changed = window.pairs | window.nulls;
     let runs = window.ill_formed & !(window.ill_formed << 1);
     if changed == 0 && runs.count_ones() >= MANY_RUNS {
         return write_replaced::<F>(bytes, at, window, out, end);

@@ -14,11 +14,11 @@ ghost use Rattle.cesu8_decode.specs.Masks.{IsWindow};
 use super::window::WIDEST;
 use crate::lanes::padded::load;
 use crate::lanes::windows::{Window, window_of_short};
-use crate::pass::events::{STORED_AFTER, write_events};
+use crate::pass::events::{STORED_AFTER, write_events, write_ill_formed_events};
 use crate::prefix::UnchangedPrefix;
 use cesu8_bytes::flavor::Flavor;
 use cesu8_bytes::lanes::class::{Equal, LANES, bits};
-use cesu8_bytes::strictness::{LossyReading, Reading, StrictReading, Strictness};
+use cesu8_bytes::strictness::{Reading, StrictReading, Strictness};
 use std::simd::prelude::*;
 
 // The lengths of buffers for the longest text, and for what is stored after it.
@@ -81,7 +81,7 @@ fn write_lossily<F: Flavor>(bytes: &[u8], out: &mut [u8]) -> usize
     let mut source = [0; SOURCE];
     load(bytes, &mut source);
     let window = window_of_short::<F>(bytes);
-    write_events::<F, LossyReading>(&source, 0, window, out, 0)
+    write_ill_formed_events::<F>(&source, 0, window, out, 0)
 }
 
 /// Returns the window of the first `len` bytes of the source, none of which is ill-formed, from the

@@ -4,4 +4,4 @@ use Rattle.cesu8_bytes.proofs.lists.Ascii.{ascii_of_none}
 use Rattle.cesu8_bytes.proofs.fast_paths.is_short_ascii.Goals as goal
 
 pub returns : goal.returns
-returns c none = ascii_of_none c.args.bytes.now (λ any. iff_false c.any_in_bytes.ensures (not-true _ none) any)
+returns c none = ascii_of_none c.args.bytes.now (λ any. iff_false c.any_in_bytes_or_call.ensures (not-true _ none) any)

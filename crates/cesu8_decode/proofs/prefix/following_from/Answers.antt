@@ -1,5 +1,6 @@
--- A block is tested by the bytes in it and the four before it (`stop_after`). All bytes before
--- `at` can follow each other, so the first error in the block at `at` is the first error of all.
+-- A block is tested by the bytes in it and the four before it (`stop_after`). It begins at `at`, or
+-- before it if fewer than 32 bytes are left. All bytes before `at` can follow each other, so the
+-- first error in the block is the first error of all.
 use Rattle.std.proofs.Common.{◌≡◌, ◌+◌, ◌-◌, ◌<◌, length, subst, arith}
 use Rattle.cesu8_decode.specs.Following.{FirstFollow, FollowUpTo}
 use Rattle.cesu8_decode.proofs.decoder.ErrorMasks.{follow_up_to, stop_after}
@@ -10,46 +11,30 @@ returns-then-len-ne-BLOCK g c =
     let s = g.S.CharacterSet.set in
     let f = g.F.Flavor.flavor in
     let bytes = c.args.bytes.now in
-    let at = c.loop-at.at in
+    let from = c.min-from.result in
     let len = c.following_len-len.result in
     let is = c.block_at.ensures in
-    let less : len < 32 = omega (arith, c.following_len-len.ensures.within bytes (at - 4) is, c.if-len-ne-BLOCK.true) in
-    let end : at - 4 + len + 4 ≡ at + len = omega (arith, c.loop-at.invariant.start) in
+    let less : len < 32 = omega (arith, c.following_len-len.ensures.within bytes (from - 4) is, c.if-len-ne-BLOCK.true) in
+    let end : from - 4 + len + 4 ≡ from + len = omega arith in
     subst (FollowUpTo s f bytes) end
-    (stop_after s f bytes at (at - 4) len c.loop-at.invariant.first (omega (arith, c.loop-at.invariant.start))
-    (omega (arith, c.loop-at.invariant.start, c.loop-at-test.true, less)) (c.following_len-len.ensures.follow bytes (at - 4) is)
-    (λ more. c.following_len-len.ensures.stops bytes (at - 4) is less))
+    (stop_after s f bytes c.loop-at.at (from - 4) len c.loop-at.invariant.first (omega arith)
+    (omega (arith, less)) (c.following_len-len.ensures.follow bytes (from - 4) is)
+    (λ more. c.following_len-len.ensures.stops bytes (from - 4) is less))
 
 pub loop-at-preserved : goal.loop-at-preserved
 loop-at-preserved g c =
     let s = g.S.CharacterSet.set in
     let f = g.F.Flavor.flavor in
     let bytes = c.args.bytes.now in
-    let at = c.loop-at.at in
+    let from = c.min-from.result in
     let len = c.following_len-len.result in
     let is = c.block_at.ensures in
-    let within = c.following_len-len.ensures.within bytes (at - 4) is in
-    let end : at - 4 + len + 4 ≡ at + 32 = omega (arith, c.loop-at.invariant.start, c.if-len-ne-BLOCK.false, within) in
+    let within = c.following_len-len.ensures.within bytes (from - 4) is in
+    let end : from - 4 + len + 4 ≡ from + 32 = omega (arith, c.if-len-ne-BLOCK.false, within) in
     record {
       first =
           subst (FirstFollow s f bytes) end
-          (follow_up_to s f bytes at (at - 4) len c.loop-at.invariant.first (omega (arith, c.loop-at.invariant.start))
-          (omega (arith, c.loop-at.invariant.start, c.loop-at-test.true, within)) (c.following_len-len.ensures.follow bytes (at - 4) is));
-      start = omega (arith, c.loop-at.invariant.start);
+          (follow_up_to s f bytes c.loop-at.at (from - 4) len c.loop-at.invariant.first (omega arith)
+          (omega (arith, within)) (c.following_len-len.ensures.follow bytes (from - 4) is));
+      start = omega arith;
     }
-
-pub returns : goal.returns
-returns g c =
-    let s = g.S.CharacterSet.set in
-    let f = g.F.Flavor.flavor in
-    let bytes = c.args.bytes.now in
-    let at = length bytes - 32 - 4 in
-    let len = c.following_len.result in
-    let is = c.block_at-2.ensures in
-    let within = c.following_len.ensures.within bytes at is in
-    let long = c.requires.start.1 in
-    let end : at + len + 4 ≡ length bytes - 32 + len = omega (arith, long) in
-    subst (FollowUpTo s f bytes) end
-    (stop_after s f bytes c.loop-at.at at len c.loop-at.invariant.first (omega (arith, c.loop-at-test.false, long, c.loop-at.invariant.start))
-    (omega (arith, long, within)) (c.following_len.ensures.follow bytes at is)
-    (λ more. c.following_len.ensures.stops bytes at is (omega (arith, long, more))))

@@ -12,8 +12,8 @@ returns-then-unchanged-bytes g c =
     let f = g.F.Flavor.flavor in
     let bytes = c.args.bytes.now in
     let known = known_texts c.args.mode f bytes in
-    kept_put f bytes _ _ _ known g.S.Reading.which (known.unchanged ((all_unchanged f bytes _ c.unchanged_prefix-unchanged.ensures.len).0 c.if-unchanged-bytes.true)) c.copy_to_slice.result
-    c.map_err.result c.args.buf.now c.copy_to_slice.new.buf (omega arith) c.map_err.ensures.cases c.copy_to_slice.ensures
+    kept_put f bytes _ _ _ known g.S.Reading.which (known.unchanged ((all_unchanged f bytes _ c.unchanged_prefix-unchanged.ensures.len).0 c.if-unchanged-bytes.true)) c.copy_short_or_call.result
+    c.map_err.result c.args.buf.now c.copy_short_or_call.new.buf (omega arith) c.map_err.ensures.cases c.copy_short_or_call.ensures
 
 pub returns-then-prefix-bytes : goal.returns-then-prefix-bytes
 returns-then-prefix-bytes g c =

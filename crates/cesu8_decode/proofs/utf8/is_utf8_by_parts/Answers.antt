@@ -16,12 +16,12 @@ returns-then-not-is_end_utf8 c =
       λ is_utf8. absurd (both_ways _ c.if-not-is_end_utf8.true ((c.is_end_utf8-2.ensures [] c.new-2.ensures).1 (same.0 is_utf8).0)),
     )
 
-pub returns-then-not-any_in_bytes : goal.returns-then-not-any_in_bytes
-returns-then-not-any_in_bytes c =
+pub returns-then-not-any_in_bytes_or_call : goal.returns-then-not-any_in_bytes_or_call
+returns-then-not-any_in_bytes_or_call c =
     let same = both_parts c.args.bytes.now c.part_end-first.result c.part_end-first.ensures.boundary in
     let first = (c.is_end_utf8-2.ensures [] c.new-2.ensures).0 c.if-not-is_end_utf8.false in
-    let found = rw take_rest at c.any_in_bytes.ensures in
-    let ascii = ascii_of_none _ (λ any. both_ways _ c.if-not-any_in_bytes.true (found.1 any)) in
+    let found = rw take_rest at c.any_in_bytes_or_call.ensures in
+    let ascii = ascii_of_none _ (λ any. both_ways _ c.if-not-any_in_bytes_or_call.true (found.1 any)) in
     (λ _. same.1 (first, IsUtf8-from_ascii _ ascii), λ _. refl)
 
 pub returns : goal.returns

@@ -31,8 +31,8 @@ stays : (start : ℕ) (buf new : List ℕ) → new ≡ drop start buf → put_mi
 stays start buf new same = to_end start buf new ∙ ap (λ bs. take start buf ++ bs) same ∙ take-append-drop start buf
 
 -- The text of the rest has at least one byte and fits, so the slice is longer than the prefix.
-pub copy_short-requires : goal.copy_short-requires
-copy_short-requires g c =
+pub copy_short_by_call-requires : goal.copy_short_by_call-requires
+copy_short_by_call-requires g c =
     let bytes = c.args.bytes.now in
     let buf = c.args.buf.now in
     let n = c.args.prefix in
@@ -62,9 +62,9 @@ returns-in-Ok g c =
     let is : start ≡ n = omega (arith, room, length-drop start buf, c.min-start.ensures) in
     let long : length (take n bytes) ≡ length (take start buf) =
     omega (arith, is, room, length-drop start buf, length-take-le n bytes c.requires.prefix.0.within, length-take-le start buf (omega (arith, room, length-drop start buf))) in
-    prefix_put f bytes buf n c.requires.prefix.0 (omega arith) start c.in-Ok.len new c.copy_short.new.buf
+    prefix_put f bytes buf n c.requires.prefix.0 (omega arith) start c.in-Ok.len new c.copy_short_by_call.new.buf
     (omega (arith, is, room, length-drop start buf)) is puts
-    (c.copy_short.ensures ∙ ap (λ bs. take n bytes ++ bs)
+    (c.copy_short_by_call.ensures ∙ ap (λ bs. take n bytes ++ bs)
     (ap (drop (length (take n bytes))) (to_end start buf new) ∙ ap (λ m. drop m (take start buf ++ new)) long ∙ drop-append_seam (take start buf) new))
 
 -- The text of the rest is no longer than the rest, so the sum does not overflow.

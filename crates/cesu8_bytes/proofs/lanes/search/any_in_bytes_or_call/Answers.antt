@@ -4,7 +4,7 @@ use Rattle.std.proofs.Common.{ℕ, subst, ◌↔◌, IsTrue, ◌-◌, ◌*◌, �
 use Rattle.std.specs.List.{Any}
 use Rattle.cesu8_bytes.proofs.lists.Chunks.{found_in_chunks, left_by_chunks}
 use Rattle.cesu8_bytes.proofs.lists.Ends.{any_drop, any_later}
-use Rattle.cesu8_bytes.proofs.fast_paths.any_in_vectors.Goals as goal
+use Rattle.cesu8_bytes.proofs.lanes.search.any_in_bytes_or_call.Goals as goal
 
 pub returns-then-any_in_each : goal.returns-then-any_in_each
 returns-then-any_in_each g c =
@@ -18,7 +18,7 @@ returns-else-any_in_each g c =
     let bytes = c.args.bytes.now in
     let left = left_by_chunks InClass 64 bytes _ _ c.any_in_each.result
     c.as_chunks.ensures.front c.as_chunks.ensures.back c.any_in_each.ensures c.if-any_in_each.false in
-    let last = subst (λ end. IsTrue c.has.result ↔ Any InClass end) c.end_vector-end.ensures c.has.ensures in (
+    let last = subst (λ end. IsTrue c.has.result ↔ Any InClass end) c.end_vector-last.ensures c.has.ensures in (
       (λ t. any_drop InClass (length bytes - 64) bytes (last.0 t)),
       (λ any. last.1 (any_later InClass (length bytes - 64) (length bytes / 64 * 64) bytes (omega arith)
           (subst (Any InClass) c.as_chunks.ensures.back (left.1 any)))),

@@ -2,7 +2,7 @@
 -- bytes after `at` (`READ_BEFORE`).
 use Rattle.std.proofs.Common.{◌+◌, ap, arith, length}
 use Rattle.std.proofs.lemmas.Simd.{length-chunk}
-use Rattle.cesu8_encode.proofs.middle_blocks.CopyUnchangedBlockWriter.write.Goals as goal
+use Rattle.cesu8_encode.proofs.middle_blocks.write_middle_block.Goals as goal
 
 pub put_lanes-requires : goal.put_lanes-requires
 put_lanes-requires g c =
