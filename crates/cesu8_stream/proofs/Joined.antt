@@ -53,4 +53,3 @@ pub nothing : (from to : List ℕ → List ℕ) (bytes old new : List ℕ) → f
     Converts from to bytes 0 0 old new
 nothing from to bytes old new from_empty to_empty same =
     ([], (tt, from_empty), (rw to_empty refl, rw (to_empty, same) refl))
-

@@ -1,7 +1,7 @@
 -- A block is tested by the bytes in it and the four before it (`stop_after`). It begins at `at`, or
 -- before it if fewer than 32 bytes are left. All bytes before `at` can follow each other, so the
 -- first error in the block is the first error of all.
-use Rattle.std.proofs.Common.{◌≡◌, ◌+◌, ◌-◌, ◌<◌, length, subst, arith}
+use Rattle.std.proofs.Common.{◌≡◌, ◌+◌, ◌-◌, ◌<◌, subst, arith}
 use Rattle.cesu8_decode.specs.Following.{FirstFollow, FollowUpTo}
 use Rattle.cesu8_decode.proofs.decoder.ErrorMasks.{follow_up_to, stop_after}
 use Rattle.cesu8_decode.proofs.prefix.following_from.Goals as goal
