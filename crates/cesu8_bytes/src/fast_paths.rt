@@ -12,8 +12,7 @@
 //! | none | does any byte change in the encoding? | encoding |
 //!
 //! "Unchanged" means that the byte is the same in UTF-8 and in the encoding: in CESU-8 all ASCII
-//! is, in MUTF-8 all but 00. Encoding also chooses by length, up to a block: `cesu8_encode` does
-//! that.
+//! is, in MUTF-8 all but 00. `cesu8_encode` also chooses by length, up to a block.
 
 ghost use Rattle.std.specs.Prelude.{◌↔◌, IsTrue, Any, take};
 ghost use Rattle.std.specs.Str.{chars, IsAscii};
@@ -23,12 +22,9 @@ ghost use Rattle.cesu8_text.specs.Encoding.{NeedsEncoding};
 use crate::flavor::Flavor;
 use crate::lanes::class::{AtLeastF0, Either, FourByteLead, LANES, NonAscii, has};
 use crate::lanes::runs::lanes_before;
-use crate::lanes::search::{any_in_bytes, any_in_bytes_or_call};
+use crate::lanes::search::{CHECKED_INLINE, any_in_bytes, any_in_bytes_or_call};
 use crate::lanes::short::are_short;
 use std::simd::prelude::*;
-
-/// The largest input that is checked inline for unchanged ASCII.
-const CHECKED_INLINE: usize = 4 * LANES;
 
 /// The largest input that a lenient call checks inline for ASCII.
 const TESTED_AT_ONCE: usize = 16 * LANES;

@@ -3,9 +3,6 @@
 //!
 //! A public call has the mode as a type, so that its fast path is compiled for that mode. Functions
 //! called after it do not depend on the mode, or get it as a value, so that one serves both modes.
-//!
-//! `prefix_unless_kept` decides whether a call returns its input unchanged. If not, it returns the
-//! unchanged prefix, with which decoding begins.
 
 ghost use Rattle.std.specs.Prelude.{◌≡◌, ◌↔◌, ◌⊎◌, ◌≤◌, IfNone, IfSome, IsTrue, IsUtf8, length, take};
 ghost use Rattle.cesu8_decode.specs.Modes.{Keeps};

@@ -68,11 +68,9 @@ pub fn is_for_stack(text: &str) -> bool
 /// A strategy for the blocks between the first and the last.
 #[derive(Clone, Copy)]
 pub enum Middle {
-    /// Copies a block if no byte of it changes, nor one of the two before it. Most text has runs of
-    /// these.
+    /// Copies a block if neither it nor the two bytes before it change. Most text has such runs.
     CopyUnchanged,
-    /// Encodes null characters only. No other byte changes, since no byte is F0 or more
-    /// (hexadecimal).
+    /// Encodes null characters only: no other byte changes, since none is F0 or more.
     NullChange,
     /// Encodes each block, whatever changes in it.
     AnyChange,

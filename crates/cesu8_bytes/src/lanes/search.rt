@@ -3,8 +3,7 @@
 //! Two vectors of equal width cover at most 128 bytes. Longer input is tested by four vectors of 64
 //! bytes at once, and its end by a vector that overlaps those before it, so no byte is left over.
 //!
-//! Everything that passes vectors is inlined: a call would pass them through memory. Most input is
-//! short, so fast paths search more than 256 bytes by a call (`any_in_bytes_or_call`).
+//! Everything that passes vectors is inlined: a call would pass them through memory.
 
 ghost use Rattle.std.specs.Prelude.{◌<◌, ◌≤◌, ◌↔◌, IsTrue, Any, length};
 ghost use Rattle.cesu8_bytes.specs.Kernels.{AnyIn};
@@ -14,8 +13,8 @@ use super::groups::InGroups;
 use super::short::{any_in_ends, are_short, by_two_vectors, end_vector};
 use std::simd::prelude::*;
 
-/// The longest input that `any_in_bytes_or_call` searches inline.
-const INLINE: usize = 4 * LANES;
+/// The longest input that a fast path searches inline.
+pub(crate) const CHECKED_INLINE: usize = 4 * LANES;
 
 /// Returns whether some byte is in the class.
 #[inline(always)]
@@ -42,21 +41,19 @@ pub fn any_in_long<C: InGroups>(bytes: &[u8]) -> bool
     any_in_chunks::<C>(chunks) || has::<C, LANES>(end)
 }
 
-/// Like `any_in_bytes`, but calls a function for more than 256 bytes: the loop over four vectors at
-/// once takes most of the code.
+/// Like `any_in_bytes`, but searches more than 256 bytes by a call, since that loop is long code.
 #[inline(always)]
 pub fn any_in_bytes_or_call<C: InAllVectors + InGroups>(bytes: &[u8]) -> bool
     ensures { IsTrue result ↔ AnyIn C.class bytes.now }
 {
-    // The tests of the length have the order of those in `copy_short`, so that the compiler joins
-    // them if a copy follows.
+    // The lengths are tested in the order of `copy_short`, so a copy that follows shares the tests.
     if are_short(bytes) {
         return any_in_bytes::<C>(bytes);
     }
     if bytes.len() <= 2 * LANES {
         return any_in_ends::<C, LANES>(bytes);
     }
-    if bytes.len() > INLINE {
+    if bytes.len() > CHECKED_INLINE {
         return any_in_long_by_call::<C>(bytes);
     }
     let (chunks, _) = bytes.as_chunks::<LANES>();

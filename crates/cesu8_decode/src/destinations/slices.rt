@@ -173,8 +173,7 @@ fn put_by_array<F: Flavor, S: Reading, const WRITTEN: usize>(
     copy_by_call(&written[..end], buf).map_err(WriteError::NoRoom)
 }
 
-/// Like `copy_to_slice`, but calls a function to copy, since the code for each length is long.
-/// Beside the decoding, a call takes little.
+/// Like `copy_to_slice`, but copies by a call, since the code for each length is long.
 #[inline(always)]
 pub fn copy_by_call(bytes: &[u8], buf: &mut [u8]) -> Result<usize, NoRoom>
     ensures { PutsAnswer bytes.now result buf.old buf.new }

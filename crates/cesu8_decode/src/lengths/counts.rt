@@ -24,8 +24,7 @@ pub fn saved_in_block<F: Flavor>(bytes: &[u8]) -> usize
     saved_by_lanes::<F, BLOCK>(padded_half(bytes), 0, bytes.len())
 }
 
-/// A vector of bytes, and which of its offsets are to be counted: `count` of them, after the first
-/// `counted`.
+/// A vector of bytes, of which `count` offsets after the first `counted` are to be counted.
 #[derive(Drop)]
 pub struct Offsets {
     pub lanes: u8x64,
@@ -33,11 +32,9 @@ pub struct Offsets {
     pub count: usize,
 }
 
-/// Returns a vector for the next offsets, from `at` on: for `STEP` of them, or for all that are
-/// left if these are at most 64. One loop over such vectors takes less code than a count of its own
-/// for the last bytes.
+/// Returns a vector for the next offsets: for `STEP` of them, or for all that are left, at most 64.
+/// One loop over such vectors takes less code than a count of its own for the last bytes.
 #[inline(always)]
-#[tactic(auto)]
 pub fn next_offsets<F: Flavor>(bytes: &[u8], at: usize) -> Offsets
     requires { at < length bytes.now }
     ensures lanes { (result.counted + result.count ≤ LANES) × (result.counted < LANES) }
