@@ -69,23 +69,7 @@ pair_tests : (a b d e g h : ℕ) (q r q2 r2 s s2 : Bool) → s ≡ (eqb a 0xED &
     ((s && not (s && r)) && (s2 && r2)) ≡ pair_at a b d e g h
 pair_tests a b d e g h q r q2 r2 s s2 s_is s2_is wide odd wide2 odd2 = grind (arith, nat_tests)
 
-plain_three_tests : (a b d : ℕ) (p : Bool) → (leb 0xE0 a && not p) ≡ (leb 0xE0 a && ltb a 0xF0) →
-    (whole_by a b d p && (eqb a 0xE0 || eqb a 0xED)) ≡ false → whole_by a b d p ≡ three_at a b d
-plain_three_tests a b d p lead plain = grind (arith, nat_tests)
-
-plain_pair_tests : (a b d e g h : ℕ) (p : Bool) → (leb 0xE0 a && not p) ≡ (leb 0xE0 a && ltb a 0xF0) →
-    (whole_by a b d p && (eqb a 0xE0 || eqb a 0xED)) ≡ false → pair_at a b d e g h ≡ false
-plain_pair_tests a b d e g h p lead plain = grind (arith, nat_tests)
-
 module _ (a b d : ℕ) (small_a : a < 256) (small_b : b < 256) where
-  -- If the lead byte is neither E0 nor ED, any continuation byte can be the second byte.
-  pub plain_three : (whole_by a b d (has_bit_below 3 a) && (eqb a 0xE0 || eqb a 0xED)) ≡ false → whole_by a b d (has_bit_below 3 a) ≡ three_at a b d
-  plain_three plain = plain_three_tests a b d (has_bit_below 3 a) (three_lead_bit a small_a) plain
-
-  -- Such a lead byte begins no surrogate pair.
-  pub plain_not_pair : (e g h : ℕ) → (whole_by a b d (has_bit_below 3 a) && (eqb a 0xE0 || eqb a 0xED)) ≡ false → pair_at a b d e g h ≡ false
-  plain_not_pair e g h plain = plain_pair_tests a b d e g h (has_bit_below 3 a) (three_lead_bit a small_a) plain
-
   -- The tests identify characters of three bytes.
   pub three_bits : three_by a b d (has_bit_below 3 a) (has_bit_below 2 b) ≡ three_at a b d
   three_bits = three_tests a b d (has_bit_below 3 a) (has_bit_below 2 b) (three_lead_bit a small_a) (wide_bit b small_b)

@@ -1,11 +1,11 @@
 -- The masks of characters of three bytes and of surrogate pairs, from masks of classes of bytes.
-use Rattle.std.proofs.Common.{◌≡◌, ℕ, ◌+◌, ◌/◌, ◌^◌, ◌<◌, eqb, ◌||◌, List, get_or, bit_and, bit_or, ap, sym, ◌∙◌, arith, w64}
+use Rattle.std.proofs.Common.{◌≡◌, ℕ, ◌+◌, ◌/◌, ◌^◌, ◌<◌, eqb, List, get_or, bit_and, bit_or, ap, sym, ◌∙◌, arith, w64}
 use Rattle.std.specs.Int.{bit_not}
 use Rattle.std.proofs.lemmas.Nat.{and_le_l, or_lt}
 use Rattle.cesu8_decode.specs.DecodedOffsets.{continues, pair_at}
 use Rattle.cesu8_decode.specs.Masks.{HasBits, has_bit_below, is_long_lead_at, is_three_at, is_six_at}
 use Rattle.cesu8_decode.proofs.decoder.MaskBits.{by_equal_test, and_bits, or_bits, without_bits, later_bits, no_bits, none_set}
-use Rattle.cesu8_decode.proofs.decoder.MaskTests.{whole_by, plain_three, plain_not_pair, surrogate_by, pair_by, three_bits, pair_bits, no_surrogate, no_lead_no_three, no_lead_no_pair}
+use Rattle.cesu8_decode.proofs.decoder.MaskTests.{whole_by, surrogate_by, pair_by, three_bits, pair_bits, no_surrogate, no_lead_no_three, no_lead_no_pair}
 
 -- The masks that the code computes.
 abbrev whole_of : (leads second odd : ℕ) → ℕ
@@ -40,16 +40,6 @@ module _ (xs : List ℕ) where
 
     whole_fits : whole_of leads second odd < 2 ^ 64
     whole_fits = and_fits (bit_and leads (second / 2)) (bit_not w64 odd) (and_fits leads (second / 2) leads_fit)
-
-    -- If none of these bytes is E0 or ED, they are the characters of three bytes, and no surrogate
-    -- pair begins.
-    pub plain_are : {special : ℕ} → HasBits special (λ i. eqb (x i) 0xE0 || eqb (x i) 0xED) → bit_and (whole_of leads second odd) special ≡ 0 →
-        HasBits (whole_of leads second odd) (is_three_at xs) × HasBits 0 (is_six_at xs)
-    plain_are of_special none =
-        let plain = none_set none (and_bits of_whole of_special) in (
-          by_equal_test (is_three_at xs) (λ i. plain_three (x i) (x (i + 1)) (x (i + 2)) (small i) (small (i + 1)) (plain i)) of_whole,
-          by_equal_test (is_six_at xs) (λ i. sym (plain_not_pair (x i) (x (i + 1)) (x (i + 2)) (small i) (small (i + 1)) (x (i + 3)) (x (i + 4)) (x (i + 5)) (plain i))) no_bits,
-        )
 
     module _ {wide led lowest : ℕ} (of_wide : HasBits wide (λ i. has_bit_below 2 (x i))) (of_led : HasBits led (λ i. eqb (x i) 0xED))
         (of_lowest : HasBits lowest (λ i. eqb (x i) 0xE0)) (wide_fits : wide < 2 ^ 64) (lowest_fits : lowest < 2 ^ 64) where

@@ -9,7 +9,7 @@ ghost use Rattle.cesu8_decode.specs.DecodedOffsets.{continues};
 ghost use Rattle.cesu8_decode.specs.Masks.{AreMasks, HasBits, has_bit_below, is_long_lead_at, is_null_at, is_six_at, is_three_at};
 
 use cesu8_bytes::flavor::Flavor;
-use cesu8_bytes::lanes::class::{AtLeast, Either, Equal, LANES, NonAscii, Null, bits};
+use cesu8_bytes::lanes::class::{AtLeast, Equal, LANES, NonAscii, Null, bits};
 use std::simd::prelude::*;
 
 /// How many of 64 offsets can be decided: a character that begins there ends within the 64 bytes,
@@ -143,10 +143,7 @@ fn threes_and_pairs<const N: usize>(
     // Bit 10 is set in lead bytes from F0 on, and among continuation bytes A0 to BF from B0 on.
     let odd = bits_below::<N>(lanes, 3);
     let whole = leads & (second >> 1) & !odd;
-    // Any continuation byte can follow the other lead bytes.
-    if whole & bits::<Either<Equal<0xE0>, Equal<0xED>>, N>(lanes) == 0 {
-        return (whole, 0);
-    }
+    // No branch asks for E0 and ED first: in mixed text it would be mispredicted.
     let next_wide = wide >> 1;
     let surrogates = whole & next_wide & bits::<Equal<0xED>, N>(lanes);
     let overlong = bits::<Equal<0xE0>, N>(lanes) & !next_wide;

@@ -53,10 +53,16 @@ pub fn window_of_short<F: Flavor>(bytes: &[u8]) -> Window
     ensures window { (is : IsWindow F.flavor bytes.now 0 result) × (is.n ≡ length bytes.now) }
     ensures len { result.len ≡ length bytes.now }
 {
-    if is_one_block(bytes) {
-        return window_of_lanes::<F, BLOCK>(padded_half(bytes), bytes.len());
+    let window = if is_one_block(bytes) {
+        window_of_lanes::<F, BLOCK>(padded_half(bytes), bytes.len())
+    } else {
+        window_of_lanes::<F, LANES>(padded(bytes), bytes.len())
+    };
+    // The length is known, so the compiler drops the code that finds it.
+    Window {
+        len: bytes.len(),
+        ..window
     }
-    window_of_lanes::<F, LANES>(padded(bytes), bytes.len())
 }
 
 /// Returns the window of the characters that begin at the first `count` lanes. It is also the

@@ -1,8 +1,8 @@
 -- Lead bytes of three bytes whose second byte is in range begin characters. The others after ED can
 -- be halves of pairs, which are pairs if a low surrogate follows a high one.
-use Rattle.std.proofs.Common.{eqb, ◌||◌, refl, arith}
+use Rattle.std.proofs.Common.{eqb, refl, arith}
 use Rattle.cesu8_decode.proofs.decoder.MaskBits.{class_bits, lanes_below}
-use Rattle.cesu8_decode.proofs.decoder.ThreeMasks.{none_are, plain_are, threes_are, no_pairs_are, pairs_are}
+use Rattle.cesu8_decode.proofs.decoder.ThreeMasks.{none_are, threes_are, no_pairs_are, pairs_are}
 use Rattle.cesu8_decode.proofs.lanes.masks.threes_and_pairs.Goals as goal
 
 pub returns-then-leads-eq0 : goal.returns-then-leads-eq0
@@ -10,33 +10,26 @@ returns-then-leads-eq0 g c =
     let are = none_are c.args.lanes c.if-leads-eq0.true c.requires.leads in
     record { threes = are.0; pairs = are.1 }
 
-pub returns-then-whole-bits-eq0 : goal.returns-then-whole-bits-eq0
-returns-then-whole-bits-eq0 g c =
-    let xs = c.args.lanes in
-    let are = plain_are xs (lanes_below xs c.fits-lanes.1) c.requires.leads c.requires.second c.bits_below-odd.ensures (omega arith) (omega arith)
-    (class_bits (λ b. eqb b 0xE0 || eqb b 0xED) xs refl c.bits.ensures) c.if-whole-bits-eq0.true in
-    record { threes = are.0; pairs = are.1 }
-
 pub returns-then-surrogates-eq0-clause-threes : goal.returns-then-surrogates-eq0-clause-threes
 returns-then-surrogates-eq0-clause-threes g c =
     let xs = c.args.lanes in
     threes_are xs (lanes_below xs c.fits-lanes.1) c.requires.leads c.requires.second c.bits_below-odd.ensures (omega arith) (omega arith)
-    c.requires.wide (class_bits (λ b. eqb b 0xED) xs refl c.bits-2.ensures) (class_bits (λ b. eqb b 0xE0) xs refl c.bits-3.ensures) (omega arith) (omega arith)
+    c.requires.wide (class_bits (λ b. eqb b 0xED) xs refl c.bits.ensures) (class_bits (λ b. eqb b 0xE0) xs refl c.bits-2.ensures) (omega arith) (omega arith)
 
 pub returns-then-surrogates-eq0-clause-pairs : goal.returns-then-surrogates-eq0-clause-pairs
 returns-then-surrogates-eq0-clause-pairs g c =
     let xs = c.args.lanes in
     no_pairs_are xs (lanes_below xs c.fits-lanes.1) c.requires.leads c.requires.second c.bits_below-odd.ensures (omega arith) (omega arith)
-    c.requires.wide (class_bits (λ b. eqb b 0xED) xs refl c.bits-2.ensures) (class_bits (λ b. eqb b 0xE0) xs refl c.bits-3.ensures) (omega arith) (omega arith) c.if-surrogates-eq0.true
+    c.requires.wide (class_bits (λ b. eqb b 0xED) xs refl c.bits.ensures) (class_bits (λ b. eqb b 0xE0) xs refl c.bits-2.ensures) (omega arith) (omega arith) c.if-surrogates-eq0.true
 
 pub returns-clause-threes : goal.returns-clause-threes
 returns-clause-threes g c =
     let xs = c.args.lanes in
     threes_are xs (lanes_below xs c.fits-lanes.1) c.requires.leads c.requires.second c.bits_below-odd.ensures (omega arith) (omega arith)
-    c.requires.wide (class_bits (λ b. eqb b 0xED) xs refl c.bits-2.ensures) (class_bits (λ b. eqb b 0xE0) xs refl c.bits-3.ensures) (omega arith) (omega arith)
+    c.requires.wide (class_bits (λ b. eqb b 0xED) xs refl c.bits.ensures) (class_bits (λ b. eqb b 0xE0) xs refl c.bits-2.ensures) (omega arith) (omega arith)
 
 pub returns-clause-pairs : goal.returns-clause-pairs
 returns-clause-pairs g c =
     let xs = c.args.lanes in
     pairs_are xs (lanes_below xs c.fits-lanes.1) c.requires.leads c.requires.second c.bits_below-odd.ensures (omega arith) (omega arith)
-    c.requires.wide (class_bits (λ b. eqb b 0xED) xs refl c.bits-2.ensures) (class_bits (λ b. eqb b 0xE0) xs refl c.bits-3.ensures) (omega arith) (omega arith)
+    c.requires.wide (class_bits (λ b. eqb b 0xED) xs refl c.bits.ensures) (class_bits (λ b. eqb b 0xE0) xs refl c.bits-2.ensures) (omega arith) (omega arith)
