@@ -1,6 +1,6 @@
 -- What the functions that decode promise: what is written for a window, for all bytes, and by a
 -- pass that stops and continues.
-use Rattle.std.specs.Prelude.{◌≡◌, ℕ, ◌+◌, ◌*◌, ◌<◌, ◌≤◌, Bool, true, false, List, [], ◌++◌, Vec, length, take, vec_capacity, Result, IfOk, OnErr}
+use Rattle.std.specs.Prelude.{◌≡◌, ℕ, ◌+◌, ◌*◌, ◌<◌, ◌≤◌, ◌==◌, if◌then◌else◌, Bool, true, false, List, [], ◌++◌, Vec, length, take, vec_capacity, Result, IfOk, OnErr}
 use Rattle.cesu8_text.specs.Reading.{HasNoStrictReading, lossy_length}
 use Rattle.cesu8_text.specs.Encoding.{Flavor}
 use Rattle.cesu8_bytes.specs.declared.strictness.Strictness.{Strictness}
@@ -13,6 +13,8 @@ use Rattle.cesu8_decode.specs.declared.pass.window.TheConstants.{WIDEST, ROOM}
 use Rattle.cesu8_decode.specs.declared.pass.events.TheConstants.{STORED_AFTER}
 use Rattle.cesu8_decode.specs.declared.pass.windows.Pass.{Pass}
 use Rattle.cesu8_decode.specs.DecodedOffsets.{window_of, decoded, is_ill_formed_at, is_boundary_at}
+use Rattle.cesu8_decode.specs.declared.lanes.windows.Window.{Window}
+use Rattle.cesu8_bytes.specs.Puts.{WritesAt}
 use Rattle.cesu8_bytes.specs.TextChunks.{IsReadSoFar}
 
 -- The strategy fits the bytes: they are at most as many as its limit, and for chunks more than
@@ -38,6 +40,10 @@ room_for which n = most_written which n + ROOM
 -- The space that at most 64 bytes need: for their text, and for what is stored after it.
 abbrev pub room_for_short : Strictness → ℕ
 room_for_short which = most_written which LANES + STORED_AFTER
+
+-- The most bytes that are written for a window: three for each byte if one of them is ill-formed.
+abbrev pub most_of_window : Window → ℕ
+most_of_window window = if window.ill_formed == 0 then LANES else WIDEST * LANES
 
 -- The greatest length of the text of the bytes.
 abbrev pub most_of_text : Flavor → Strictness → List ℕ → ℕ
@@ -82,6 +88,10 @@ pub record WritesDecoded (f : Flavor) (which : Strictness) (window : List ℕ) (
   pub text : IsDecoded f which window at n (take start old) (take new_end new) is_rejected
   pub end : new_end ≤ start + most_written which n
   pub len : length new ≡ length old
+
+-- The text of a window is written at an offset of a slice.
+abbrev pub WritesWindow : Flavor → List ℕ → ℕ → Window → ℕ → (old new : List ℕ) → ℕ → Type 0
+WritesWindow f bytes at window start old new end = WritesAt (decoded f (window_of bytes) at window.len) start old new end
 
 -- The pass has read some bytes and is at a character boundary.
 pub record IsPass (f : Flavor) (bytes : List ℕ) (read : ℕ) : Type 0 where

@@ -13,17 +13,19 @@ use Rattle.cesu8_text.specs.Reading.{HasNoStrictReading, reading, lossy_length}
 use Rattle.cesu8_bytes.specs.Packing.{written_for}
 use Rattle.cesu8_bytes.specs.declared.strictness.Strictness.{Strictness}
 use Rattle.cesu8_bytes.specs.declared.strictness.Strictness.TheVariants.{Strict, Lossy}
-use Rattle.cesu8_bytes.specs.Puts.{WritesAt}
 use Rattle.cesu8_bytes.specs.TextChunks.{IsReadSoFar}
 use Rattle.cesu8_bytes.proofs.vectors.Loads.{padded, zeros_at}
 use Rattle.cesu8_decode.specs.DecodedOffsets.{window_of, is_ill_formed_at, decoded_byte, decoded}
-use Rattle.cesu8_decode.specs.Decoding.{IsDecoded, WritesDecoded, most_written, most_of_text}
+use Rattle.cesu8_decode.specs.Decoding.{IsDecoded, WritesDecoded, WritesWindow, most_written, most_of_text}
+use Rattle.cesu8_decode.specs.Masks.{IsWindow}
+use Rattle.cesu8_decode.specs.declared.lanes.windows.Window.{Window}
 use Rattle.cesu8_decode.proofs.by_offset.IllFormed.{IsChunk}
 use Rattle.cesu8_decode.proofs.by_offset.WindowOffsets.{is_boundary_at, Agree, agree_later, follows_zeros, ill_formed_agrees, decoded_agrees, decoded_split}
 use Rattle.cesu8_decode.proofs.by_offset.DecodedText.{decoded_between}
 use Rattle.cesu8_decode.proofs.chunks.ReadChunks.{fault_of_whole, none_left, chunk_appended}
 use Rattle.cesu8_decode.proofs.chunks.DecodedChunks.{IsPaddedFor, padded_for, fault_at, lossy_chunk, strict_chunk}
 use Rattle.cesu8_decode.proofs.by_offset.CharacterBoundaries.{boundary_of_zeros, boundary_at_end}
+use Rattle.cesu8_decode.proofs.decoder.WindowEnds.{none_in_window, found_in_window, ends_at_zero}
 
 -- ---- lengths
 
@@ -38,7 +40,7 @@ at_most_three goes ill_formed b = grind (arith, nat_tests, common_steps)
 
 -- What is written for n bytes is at most n bytes if none of them is ill-formed, and otherwise at
 -- most three for each.
-no_longer : (f : Flavor) (which : Strictness) (window : List ℕ) (at n : ℕ) →
+pub no_longer : (f : Flavor) (which : Strictness) (window : List ℕ) (at n : ℕ) →
     (which ≡ Strict → (i : ℕ) → at ≤ i → i < at + n → is_ill_formed_at f window i ≡ false) → length (decoded f window at n) ≤ most_written which n
 unfolding decoded decoded_byte
 no_longer f Strict window at zero fine = omega arith
@@ -119,16 +121,35 @@ decoded_in f which a b before text i j n is_rejected agree is = record {
     same : (s : ℕ) → s < n → is_ill_formed_at f a (i + s) ≡ is_ill_formed_at f b (j + s)
     same s small = ill_formed_agrees f a b (i + s) (j + s) (agree_later a b i j (n + 10) s 11 (omega arith) agree)
 
--- If no byte is rejected, what decoding gives for the bytes is written.
-pub writes_decoded : (f : Flavor) (which : Strictness) (window bytes old new : List ℕ) (at n end new_end : ℕ) (is_rejected : Bool) →
-    bytes ≡ decoded f window at n → (which ≡ Strict → (i : ℕ) → at ≤ i → i < at + n → is_ill_formed_at f window i ≡ false) →
-    is_rejected ≡ false → WritesAt bytes end old new new_end → WritesDecoded f which window at n end old new new_end is_rejected
-writes_decoded f which window bytes old new at n end new_end is_rejected is fine none writes = grind (arith, nat_tests, no_longer)
+-- The text of a window, in which strict decoding accepts no ill-formed byte, is written.
+pub writes_window : (f : Flavor) (which : Strictness) (bytes : List ℕ) (at : ℕ) (window : Window) (start end : ℕ) (old new : List ℕ) →
+    IsWindow f bytes at window → (which ≡ Strict → window.ill_formed ≡ 0) → WritesWindow f bytes at window start old new end →
+    WritesDecoded f which (window_of bytes) at window.len start old new end false
+writes_window f which bytes at window start end old new is whole written =
+    let fine : which ≡ Strict → (i : ℕ) → at ≤ i → i < at + window.len → is_ill_formed_at f (window_of bytes) i ≡ false =
+    λ strict. none_in_window f bytes at window is (whole strict) in record {
+      text = record { bytes = λ _. written.bytes; refused = λ never. absurd (true≢false (sym never)); lossy = λ _. refl; strict = λ strict _. fine strict };
+      end = omega (arith, written.end, no_longer f which (window_of bytes) at window.len fine);
+      len = written.len;
+    }
 
--- If strict decoding rejects a byte, nothing is written.
-pub writes_none : (f : Flavor) (which : Strictness) (window old : List ℕ) (at n end : ℕ) → which ≡ Strict →
-    (i : ℕ) × (at ≤ i) × (i < at + n) × (is_ill_formed_at f window i ≡ true) → WritesDecoded f which window at n end old old end true
-writes_none f which window old at n end strict found = grind (arith, nat_tests)
+-- In lossy decoding any window is written.
+pub writes_lossily : (f : Flavor) (which : Strictness) (bytes : List ℕ) (at : ℕ) (window : Window) (start end : ℕ) (old new : List ℕ) →
+    IsWindow f bytes at window → which ≡ Lossy → WritesWindow f bytes at window start old new end →
+    WritesDecoded f which (window_of bytes) at window.len start old new end false
+writes_lossily f which bytes at window start end old new is lossy written =
+    writes_window f which bytes at window start end old new is (λ strict. absurd (let e = sym lossy ∙ strict in cc)) written
+
+-- If strict decoding rejects a window, nothing is written.
+pub rejects_window : (f : Flavor) (which : Strictness) (bytes : List ℕ) (at : ℕ) (window : Window) (start : ℕ) (old : List ℕ) →
+    IsWindow f bytes at window → ¬ (window.ill_formed ≡ 0) → which ≡ Strict →
+    WritesDecoded f which (window_of bytes) at window.len start old old start true
+rejects_window f which bytes at window start old is some strict = grind (arith, nat_tests, found_in_window f bytes at window is some)
+
+-- A window of `count` offsets ends at the last of them if a zero follows.
+pub ends_at : (f : Flavor) (bytes : List ℕ) (at count : ℕ) (window : Window) (is : IsWindow f bytes at window) → is.n ≡ count →
+    get_or bytes (at + count) 0 ≡ 0 → window.len ≡ count
+ends_at f bytes at count window is few null = ends_at_zero f bytes at window is (ap (λ n. get_or bytes (at + n) 0) few ∙ null) ∙ few
 
 -- ---- what has been decoded
 

@@ -1,5 +1,5 @@
 -- The bits of the events, which a loop visits one after another.
-use Rattle.std.proofs.Common.{◌≡◌, ◌≢◌, ℕ, zero, suc, ◌+◌, ◌-◌, ◌*◌, ◌/◌, ◌%◌, ◌^◌, ◌<◌, ◌≤◌, ◌⊎◌, ⊎_elim, inl, inr, sym, ap, ◌∙◌, arith, min, max}
+use Rattle.std.proofs.Common.{◌≡◌, ◌≢◌, ℕ, zero, suc, ◌+◌, ◌-◌, ◌*◌, ◌/◌, ◌%◌, ◌^◌, ◌<◌, ◌≤◌, ◌⊎◌, ⊎_elim, sym, ap, ◌∙◌, arith, min, max}
 use Rattle.std.specs.Int.{bit_at, bit_not, w64}
 use Rattle.std.specs.Int.Bits.{bit_and, bit_or}
 use Rattle.std.proofs.lemmas.Bool.{cases_lt, cases_eq}
@@ -14,9 +14,8 @@ none_below : (n k : ℕ) → ((i : ℕ) → i < k → bit_at n i ≡ 0) → n % 
 none_below n zero none = omega arith
 none_below n (suc k) none =
     let more : 1 + k ≡ suc k = omega arith in
-    let below = none_below n k (λ i small. none i (omega arith)) in
     ap (λ j. n % 2 ^ j) (sym more) ∙ mod-pow-add n 1 k
-    ∙ ap (λ b. b * 2 ^ k + n % 2 ^ k) (none k (omega arith)) ∙ omega (arith, below)
+    ∙ ap (λ b. b * 2 ^ k + n % 2 ^ k) (none k (omega arith)) ∙ omega (arith, none_below n k (λ i small. none i (omega arith)))
 
 -- Bit k is the lowest bit that is set.
 pub record IsLowest (n k : ℕ) : Type 0 where
@@ -34,14 +33,11 @@ module _ (n k : ℕ) (lowest : IsLowest n k) where
       mod-pow-add n 1 k ∙ ap (λ b. b * 2 ^ k + n % 2 ^ k) lowest.set ∙ omega (arith, none_below n k lowest.below) in
       sym (div-add-mod' n (2 ^ (1 + k))) ∙ ap (λ r. n / 2 ^ (1 + k) * 2 ^ (1 + k) + r) rest
 
-  some : 1 ≤ 2 ^ k
-  some = pow_pos k
-
   less : n - 1 ≡ above * 2 ^ (1 + k) + (2 ^ k - 1)
-  less = omega (arith, shape, some)
+  less = omega (arith, shape, pow_pos k)
 
   -- n & (n - 1) clears bit k.
-  pub cleared : bit_at (bit_and n (n - 1)) k ≡ 0
+  cleared : bit_at (bit_and n (n - 1)) k ≡ 0
   cleared = grind (arith, less, bit_at_cat_low, bit_at_ones_above, bit_at_and)
 
   -- n & (n - 1) leaves the other bits unchanged.
@@ -55,82 +51,11 @@ module _ (n k : ℕ) (lowest : IsLowest n k) where
       bit_at_and n (n - 1) i ∙ omega (arith, here, there))
       (cases_lt i k)
 
--- ---- events
-
--- From `read` on, the events are the bits of `changing` and the first bit of each run of `ill`.
-pub record AreEvents (changing ill read events : ℕ) : Type 0 where
-  pub later : (i : ℕ) → bit_at events i ≡ 1 → read ≤ i
-  pub is : (i : ℕ) → bit_at events i ≡ 1 → (bit_at changing i ≡ 1) ⊎ (bit_at ill i ≡ 1)
-  pub first : (i j : ℕ) → i ≡ j + 1 → bit_at events i ≡ 1 → (bit_at changing i ≡ 1) ⊎ (bit_at ill j ≡ 0)
-  pub changes : (i : ℕ) → read ≤ i → bit_at changing i ≡ 1 → bit_at events i ≡ 1
-  pub begins : (i : ℕ) → read ≤ i → bit_at ill i ≡ 1 → (bit_at events i ≡ 1) ⊎ ((j : ℕ) × (i ≡ j + 1) × (read ≤ j) × (bit_at ill j ≡ 1))
-
--- No event begins at the offset.
-abbrev pub NoEvent : (changing ill i : ℕ) → Type 0
-NoEvent changing ill i = (bit_at changing i ≡ 0) × (bit_at ill i ≡ 0)
+-- ---- the events of a window
 
 -- A bit that is not 1 is 0.
 pub unset : (n i : ℕ) → (bit_at n i ≡ 1 → ⊥) → bit_at n i ≡ 0
 unset n i none = grind (arith, bit_at-lt)
-
-module _ (changing ill read events : ℕ) (are : AreEvents changing ill read events) where
-  -- No ill-formed byte precedes the next event.
-  no_run : (n i next : ℕ) → i < read + n → read ≤ i → i < next → ((j : ℕ) → j < next → bit_at events j ≡ 0) → bit_at ill i ≡ 0
-  no_run zero i next there low before none = absurd (omega arith)
-  no_run (suc n) i next there low before none =
-      unset ill i (λ set. ⊎_elim (λ (here : bit_at events i ≡ 1). omega (arith, here, none i before))
-      (λ (run : (j : ℕ) × (i ≡ j + 1) × (read ≤ j) × (bit_at ill j ≡ 1)).
-      omega (arith, run, no_run n run.0 next (omega (arith, run)) run.2 (omega (arith, run)) none))
-      (are.begins i low set))
-
-  -- No event precedes the next one.
-  pub none_before : (next : ℕ) → ((j : ℕ) → j < next → bit_at events j ≡ 0) → (i : ℕ) → read ≤ i → i < next → NoEvent changing ill i
-  none_before next none i low before =
-      (unset changing i (λ set. omega (arith, are.changes i low set, none i before)), no_run (i + 1) i next (omega arith) low before none)
-
-  -- After an event, the remaining bits are the remaining events.
-  pub after_event : (next after : ℕ) → IsLowest events next → next < after →
-      ((i j : ℕ) → i ≡ j + 1 → next < i → i < after → (bit_at changing i ≡ 0) × ((bit_at ill i ≡ 0) ⊎ (bit_at ill j ≡ 1))) →
-      ((j : ℕ) → after ≡ j + 1 → (bit_at ill after ≡ 0) ⊎ (bit_at ill j ≡ 0)) →
-      AreEvents changing ill after (bit_and events (events - 1))
-  after_event next after lowest further inside ends =
-      let left = bit_and events (events - 1) in
-      let was : (i : ℕ) → bit_at left i ≡ 1 → (bit_at events i ≡ 1) × (next < i) = λ i set.
-      ⊎_elim (λ (here : i ≡ next). absurd (omega (arith, set, ap (bit_at left) here, cleared events next lowest)))
-      (λ (other : ¬ (i ≡ next)).
-      let same = others_unchanged events next lowest i other in (
-        omega (arith, same, set),
-        ⊎_elim (λ (low : i < next). absurd (omega (arith, same, set, lowest.below i low))) (λ (high : next ≤ i). omega (arith, other))
-            (cases_lt i next),
-      ))
-      (cases_eq i next) in
-      let stays : (i : ℕ) → next < i → bit_at events i ≡ 1 → bit_at left i ≡ 1 = λ i high set. others_unchanged events next lowest i (λ here. omega arith) ∙ set in
-      record {
-        later = λ i set. let h = was i set in ⊎_elim (λ (low : i < after). absurd (
-            let before = inside i (i - 1) (omega (arith, h)) h.1 low in
-            ⊎_elim (λ (changes : bit_at changing i ≡ 1). omega (arith, changes, before.0))
-            (λ (fresh : bit_at ill (i - 1) ≡ 0).
-            ⊎_elim (λ (fine : bit_at ill i ≡ 0).
-            ⊎_elim (λ (changes : bit_at changing i ≡ 1). omega (arith, changes, before.0)) (λ (set : bit_at ill i ≡ 1). omega (arith, set, fine)) (are.is i h.0))
-            (λ (run : bit_at ill (i - 1) ≡ 1). omega (arith, run, fresh)) before.1)
-            (are.first i (i - 1) (omega (arith, h)) h.0)
-            )) (λ high. high) (cases_lt i after);
-        is = λ i set. are.is i (was i set).0;
-        first = λ i j there set. are.first i j there (was i set).0;
-        changes = λ i low set. stays i (omega arith) (are.changes i (omega (arith, are.later next lowest.set)) set);
-        begins = λ i low set.
-            ⊎_elim (λ (here : bit_at events i ≡ 1). inl (stays i (omega arith) here))
-            (λ (run : (j : ℕ) × (i ≡ j + 1) × (read ≤ j) × (bit_at ill j ≡ 1)).
-            ⊎_elim (λ (early : run.0 < after).
-            let here : i ≡ after = omega (arith, run) in
-            absurd (⊎_elim (λ (none : bit_at ill after ≡ 0). omega (arith, none, set, ap (bit_at ill) here)) (λ (none : bit_at ill run.0 ≡ 0). omega (arith, none, run))
-            (ends run.0 (omega (arith, run)))))
-            (λ (late : after ≤ run.0). inr (run.0, run.1, late, run.3))
-            (cases_lt run.0 after))
-            (are.begins i (omega (arith, are.later next lowest.set)) set);
-      }
-
--- ---- the events at the first byte
 
 -- The bits of a word that is shifted left by one.
 module _ (n : ℕ) where
@@ -143,19 +68,16 @@ module _ (n : ℕ) where
       let half : n * 2 / 2 ≡ n = omega arith in
       bit_kept (n * 2) i small ∙ ap (bit_at (n * 2)) next ∙ bit_at-suc (n * 2) j ∙ ap (λ m. bit_at m j) half
 
--- At the first byte, all events are left.
+-- The mask of all events: the bits of `changing`, and the first bit of each run of `ill`.
+abbrev pub all_events : (changing ill : ℕ) → ℕ
+all_events changing ill = bit_or changing (bit_and ill (bit_not w64 (ill * 2 % 2 ^ 64)))
+
 module _ (changing ill : ℕ) (fits : ill < 2 ^ 64) where
-  abbrev shifted : ℕ
-  shifted = ill * 2 % 2 ^ 64
-
-  abbrev events : ℕ
-  events = bit_or changing (bit_and ill (bit_not w64 shifted))
-
-  event_bit : (i : ℕ) → bit_at events i ≡ max (bit_at changing i) (min (bit_at ill i) (1 - bit_at shifted i))
+  event_bit : (i : ℕ) → bit_at (all_events changing ill) i ≡ max (bit_at changing i) (min (bit_at ill i) (1 - bit_at (ill * 2 % 2 ^ 64) i))
   event_bit i =
-      let small : shifted < 2 ^ 64 = omega arith in
-      bit_at_or changing (bit_and ill (bit_not w64 shifted)) i ∙ ap (max (bit_at changing i)) (bit_at_and ill (bit_not w64 shifted) i)
-      ∙ ⊎_elim (λ (inside : i < 64). ap (λ k. max (bit_at changing i) (min (bit_at ill i) k)) (bit_at_not w64 shifted i small inside))
+      let small : ill * 2 % 2 ^ 64 < 2 ^ 64 = omega arith in
+      bit_at_or changing (bit_and ill (bit_not w64 (ill * 2 % 2 ^ 64))) i ∙ ap (max (bit_at changing i)) (bit_at_and ill (bit_not w64 (ill * 2 % 2 ^ 64)) i)
+      ∙ ⊎_elim (λ (inside : i < 64). ap (λ k. max (bit_at changing i) (min (bit_at ill i) k)) (bit_at_not w64 (ill * 2 % 2 ^ 64) i small inside))
       (λ (past : 64 ≤ i). omega (arith, bit_at_above ill 64 i fits past))
       (cases_lt i 64)
 
@@ -163,25 +85,65 @@ module _ (changing ill : ℕ) (fits : ill < 2 ^ 64) where
   ill_inside i set =
       ⊎_elim (λ (inside : i < 64). inside) (λ (past : 64 ≤ i). absurd (omega (arith, set, bit_at_above ill 64 i fits past))) (cases_lt i 64)
 
-  -- An event that is no bit of `changing` is one of `ill`, and the bit before it is not set.
-  event_ill : (i : ℕ) → bit_at events i ≡ 1 → (bit_at changing i ≡ 1) ⊎ ((bit_at ill i ≡ 1) × (bit_at shifted i ≡ 0))
-  event_ill i set = grind (arith, event_bit, bit_at-lt)
+  -- An event has a bit in one of the masks.
+  pub event_set : (i : ℕ) → bit_at (all_events changing ill) i ≡ 1 → (bit_at changing i ≡ 1) ⊎ (bit_at ill i ≡ 1)
+  event_set i set = grind (arith, event_bit, bit_at-lt)
 
-  pub all_events : AreEvents changing ill 0 events
-  all_events = record {
-    later = λ i set. omega arith;
-    is = λ i set. ⊎_elim (λ one. inl one) (λ (bad : (bit_at ill i ≡ 1) × (bit_at shifted i ≡ 0)). inr bad.0) (event_ill i set);
-    first = λ i j there set.
-        ⊎_elim (λ one. inl one) (λ (bad : (bit_at ill i ≡ 1) × (bit_at shifted i ≡ 0)). inr (sym (shifted_next ill i j (ill_inside i bad.0) there) ∙ bad.1))
-        (event_ill i set);
-    changes = λ i low set. omega (arith, set, event_bit i, bit_at-lt ill i);
-    begins = λ i low set.
-        ⊎_elim (λ (start : i ≡ 0). inl (omega (arith, set, event_bit i, ap (bit_at shifted) start, shifted_first ill, bit_at-lt changing i)))
-        (λ (later : ¬ (i ≡ 0)).
-        let there : i ≡ i - 1 + 1 = omega (arith, later) in
-        ⊎_elim (λ (run : bit_at ill (i - 1) ≡ 1). inr (i - 1, there, omega arith, run))
-        (λ (alone : ¬ (bit_at ill (i - 1) ≡ 1)).
-        inl (omega (arith, set, event_bit i, shifted_next ill i (i - 1) (ill_inside i set) there, alone, bit_at-lt ill (i - 1), bit_at-lt changing i)))
-        (cases_eq (bit_at ill (i - 1)) 1))
-        (cases_eq i 0);
+  -- Without an event no bit of `changing` is set.
+  pub none_changing : (i : ℕ) → bit_at (all_events changing ill) i ≡ 0 → bit_at changing i ≡ 0
+  none_changing i none = omega (arith, none, event_bit i)
+
+  -- An ill-formed byte is an event if it is the first byte, or the byte before it is not ill-formed.
+  pub first_begins : bit_at ill 0 ≡ 1 → bit_at (all_events changing ill) 0 ≡ 1
+  first_begins set = omega (arith, set, event_bit 0, shifted_first ill, bit_at-lt changing 0)
+
+  pub run_begins : (i j : ℕ) → i ≡ j + 1 → bit_at ill j ≡ 0 → bit_at ill i ≡ 1 → bit_at (all_events changing ill) i ≡ 1
+  run_begins i j there fine set = omega (arith, fine, set, event_bit i, shifted_next ill i j (ill_inside i set) there, bit_at-lt changing i)
+
+  -- No event is at a byte that is in neither mask, or that follows an ill-formed byte.
+  pub none_there : (i j : ℕ) → i ≡ j + 1 → bit_at changing i ≡ 0 → (bit_at ill i ≡ 0) ⊎ (bit_at ill j ≡ 1) → bit_at (all_events changing ill) i ≡ 0
+  none_there i j there none either =
+      ⊎_elim (λ (fine : bit_at ill i ≡ 0). omega (arith, none, fine, event_bit i))
+      (λ (run : bit_at ill j ≡ 1).
+      ⊎_elim (λ (inside : i < 64). omega (arith, none, run, event_bit i, shifted_next ill i j inside there, bit_at-lt ill i))
+      (λ (past : 64 ≤ i). omega (arith, none, event_bit i, bit_at_above ill 64 i fits past))
+      (cases_lt i 64)) either
+
+-- ---- the events that are left
+
+-- The bits of the events from `read` on are left, and no ill-formed byte before `read` is in the
+-- run of the byte there.
+pub record AreLeft (changing ill read events : ℕ) : Type 0 where
+  pub gone : (i : ℕ) → i < read → bit_at events i ≡ 0
+  pub same : (i : ℕ) → read ≤ i → bit_at events i ≡ bit_at (all_events changing ill) i
+  pub fresh : bit_at ill read ≡ 1 → bit_at (all_events changing ill) read ≡ 1
+
+module _ (changing ill read events : ℕ) (fits : ill < 2 ^ 64) (are : AreLeft changing ill read events) where
+  -- The bytes before the next event are in no event.
+  pub none_before : (next i : ℕ) → ((j : ℕ) → j < next → bit_at events j ≡ 0) → read ≤ i → i < next → (bit_at changing i ≡ 0) × (bit_at ill i ≡ 0)
+  none_before next i none low before = (none_changing changing ill fits i (none_at i low before), ap (bit_at ill) there ∙ none_after (i - read) (omega (arith, there)))
+    where
+      there : i ≡ read + (i - read)
+      there = omega arith
+
+      none_at : (i : ℕ) → read ≤ i → i < next → bit_at (all_events changing ill) i ≡ 0
+      none_at i low before = sym (are.same i low) ∙ none i before
+
+      none_after : (k : ℕ) → read + k < next → bit_at ill (read + k) ≡ 0
+      none_after zero inside = unset ill (read + 0) (λ set.
+          let here : read + 0 ≡ read = omega arith in
+          omega (arith, are.fresh (ap (bit_at ill) (sym here) ∙ set), none_at read (omega arith) (omega arith)))
+      none_after (suc k) inside = unset ill (read + suc k) (λ set. omega (arith, run_begins changing ill fits (read + suc k) (read + k) (omega arith) (none_after k (omega arith)) set, none_at (read + suc k) (omega arith) inside))
+
+  -- After an event that ends at `after`, the others are left.
+  pub after_event : (next after : ℕ) → IsLowest events next → read ≤ next → next < after → ((i : ℕ) → next < i → i < after → bit_at (all_events changing ill) i ≡ 0) →
+      (bit_at ill after ≡ 1 → bit_at (all_events changing ill) after ≡ 1) → AreLeft changing ill after (bit_and events (events - 1))
+  after_event next after lowest low further none begins = record {
+    gone = λ i small. ⊎_elim (λ (here : i ≡ next). ap (bit_at (bit_and events (events - 1))) here ∙ cleared events next lowest)
+        (λ (other : ¬ (i ≡ next)).
+        others_unchanged events next lowest i other
+        ∙ ⊎_elim (λ (before : i < next). lowest.below i before) (λ (inside : next ≤ i). are.same i (omega arith) ∙ none i (omega (arith, other)) small) (cases_lt i next))
+        (cases_eq i next);
+    same = λ i past. others_unchanged events next lowest i (λ here. omega arith) ∙ are.same i (omega arith);
+    fresh = begins;
   }

@@ -18,8 +18,7 @@ use Rattle.cesu8_decode.proofs.by_offset.WindowOffsets.{Agree}
 use Rattle.cesu8_decode.proofs.by_offset.CharacterBoundaries.{boundary_of_zeros}
 use Rattle.cesu8_decode.proofs.chunks.DecodedCharacters.{text_fine, boundary_after_text, text_decoded, pair_fine, boundary_after_pair, pair_decoded}
 use Rattle.cesu8_decode.proofs.chunks.UnchangedPrefixes.{in_utf8}
-use Rattle.cesu8_decode.proofs.decoder.BlocksInPlace.{more_decoded, decoded_in, most_of_more, all_decoded, refused_decoded, windows_alike, writes_decoded}
-use Rattle.cesu8_decode.proofs.decoder.WindowEnds.{none_in_window}
+use Rattle.cesu8_decode.proofs.decoder.BlocksInPlace.{more_decoded, decoded_in, most_of_more, all_decoded, refused_decoded, windows_alike, writes_window}
 
 -- The state of a pass that has read some bytes and was not stopped.
 abbrev pub pass_at : (read end : ℕ) → Pass
@@ -123,9 +122,7 @@ pub text_of_window : (f : Flavor) (which : Strictness) (bytes source : List ℕ)
     ((k : ℕ) → get_or source k 0 ≡ get_or bytes k 0) → IsWindow f source 0 window → window.len ≡ length bytes → (which ≡ Strict → window.ill_formed ≡ 0) →
     WritesAt (decoded f (window_of source) 0 window.len) 0 old new end → WritesText f which bytes end old new
 text_of_window f which bytes source window end old new alike is len whole written =
-    let writes : WritesDecoded f which (window_of source) 0 window.len 0 old new end false =
-    writes_decoded f which (window_of source) _ old new 0 window.len 0 end false refl
-    (λ strict i from to. none_in_window f source 0 window is (whole strict) i from to) refl written in
+    let writes = writes_window f which source 0 window 0 end old new is whole written in
     record {
       text = all_decoded f which bytes [] _ window.len
           (decoded_in f which (window_of source) (window_of bytes) [] _ 0 0 window.len false (λ k small. windows_alike source bytes alike (0 + k)) writes.text) len;

@@ -7,9 +7,8 @@
 ghost use Rattle.std.specs.Prelude.{◌≡◌, ◌+◌, ◌*◌, ◌<◌, ◌≤◌, true, false, length, take, drop, replicate};
 ghost use Rattle.cesu8_text.specs.Text.{utf8};
 ghost use Rattle.cesu8_bytes.specs.Puts.{WritesAt};
-ghost use Rattle.cesu8_bytes.specs.declared.strictness.Strictness.TheVariants.{Lossy, Strict};
 ghost use Rattle.cesu8_decode.specs.DecodedOffsets.{decoded, window_of, width_at};
-ghost use Rattle.cesu8_decode.specs.Decoding.{most_written};
+ghost use Rattle.cesu8_decode.specs.Decoding.{WritesWindow, most_of_window};
 ghost use Rattle.cesu8_decode.specs.Masks.{HoldWindow, is_null_at, is_pair_at};
 
 mod dense_nulls;
@@ -19,7 +18,6 @@ use crate::lanes::windows::Window;
 use cesu8_bytes::flavor::Flavor;
 use cesu8_bytes::lanes::class::LANES;
 use cesu8_bytes::pairs::{PAIR, PAIR_READ, PAIR_UTF8, utf8_of_pair};
-use cesu8_bytes::strictness::{LossyReading, Reading, StrictReading, Strictness};
 use cesu8_bytes::writing::offsets::{put, put_lanes};
 use dense_nulls::write_nulls;
 use replaced::{REPLACEMENT, write_replaced};
@@ -47,10 +45,9 @@ const MANY_NULLS: u32 = 4;
 /// it. Fewer runs are faster by stores of the replacement character.
 const MANY_RUNS: u32 = 5;
 
-/// Writes the text of a window, and returns its end. The window begins at a character boundary. In
-/// strict decoding it has no ill-formed byte.
+/// Writes the text of a window that has no ill-formed byte, and returns its end.
 #[inline(always)]
-pub fn write_events<F: Flavor, S: Reading>(
+pub fn write_well_formed_events<F: Flavor>(
     bytes: &[u8],
     at: usize,
     window: Window,
@@ -58,22 +55,18 @@ pub fn write_events<F: Flavor, S: Reading>(
     end: usize,
 ) -> usize
     requires window { HoldWindow F.flavor bytes.now at window }
-    requires strict { S.which ≡ Strict → window.ill_formed ≡ 0 }
-    requires room { end + most_written S.which LANES + STORED_AFTER ≤ length out.old }
-    ensures { WritesAt (decoded F.flavor (window_of bytes.now) at window.len)
-        end out.old out.new result }
+    requires whole { window.ill_formed ≡ 0 }
+    requires room { end + LANES + STORED_AFTER ≤ length out.old }
+    ensures { WritesWindow F.flavor bytes.now at window end out.old out.new result }
 {
-    if window.ill_formed == 0 {
-        if window.pairs == 0 && window.nulls.count_ones() >= MANY_NULLS {
-            return write_nulls::<F>(bytes, at, window, out, end);
-        }
-        return write_in_turn::<F, StrictReading>(bytes, at, window, out, end);
+    if window.pairs == 0 && window.nulls.count_ones() >= MANY_NULLS {
+        return write_nulls::<F>(bytes, at, window, out, end);
     }
-    write_ill_formed_events::<F>(bytes, at, window, out, end)
+    write_in_turn::<F>(bytes, at, window, out, end)
 }
 
-/// Like `write_events` in lossy decoding, for a window that has ill-formed bytes. It is correct for
-/// any window, but has no faster code for one without.
+/// Writes the text of any window, and returns its end. It is meant for a window that has ill-formed
+/// bytes: it has no faster code for one without.
 #[inline(always)]
 #[tactic(auto, using(std::proofs::lemmas::Nat::le_or_l, std::proofs::lemmas::Nat::le_or_r))]
 pub fn write_ill_formed_events<F: Flavor>(
@@ -84,21 +77,21 @@ pub fn write_ill_formed_events<F: Flavor>(
     end: usize,
 ) -> usize
     requires window { HoldWindow F.flavor bytes.now at window }
-    requires room { end + most_written Lossy LANES + STORED_AFTER ≤ length out.old }
-    ensures { WritesAt (decoded F.flavor (window_of bytes.now) at window.len)
-        end out.old out.new result }
+    requires room { end + REPLACEMENT * LANES + STORED_AFTER ≤ length out.old }
+    ensures { WritesWindow F.flavor bytes.now at window end out.old out.new result }
 {
     let changed = window.pairs | window.nulls;
     let runs = window.ill_formed & !(window.ill_formed << 1);
     if changed == 0 && runs.count_ones() >= MANY_RUNS {
         return write_replaced::<F>(bytes, at, window, out, end);
     }
-    write_in_turn::<F, LossyReading>(bytes, at, window, out, end)
+    write_in_turn::<F>(bytes, at, window, out, end)
 }
 
-/// Writes the events one after another, and copies the bytes between them.
+/// Writes the events one after another, and copies the bytes between them. If `ill_formed` is known
+/// to be 0, it is compiled without the code that replaces ill-formed bytes.
 #[inline(always)]
-fn write_in_turn<F: Flavor, S: Reading>(
+fn write_in_turn<F: Flavor>(
     bytes: &[u8],
     at: usize,
     window: Window,
@@ -106,16 +99,10 @@ fn write_in_turn<F: Flavor, S: Reading>(
     end: usize,
 ) -> usize
     requires window { HoldWindow F.flavor bytes.now at window }
-    requires strict { S.which ≡ Strict → window.ill_formed ≡ 0 }
-    requires room { end + most_written S.which window.len + STORED_AFTER ≤ length out.old }
-    ensures { WritesAt (decoded F.flavor (window_of bytes.now) at window.len)
-        end out.old out.new result }
+    requires room { end + most_of_window window + STORED_AFTER ≤ length out.old }
+    ensures { WritesWindow F.flavor bytes.now at window end out.old out.new result }
 {
-    // Strict decoding is compiled without the code that replaces ill-formed bytes.
-    let ill_formed = match S::strictness() {
-        Strictness::Strict => 0,
-        Strictness::Lossy => window.ill_formed,
-    };
+    let ill_formed = window.ill_formed;
     let mut events = window.pairs | window.nulls | ill_formed & !(ill_formed << 1);
     let mut read = 0;
     let mut end = end;
@@ -166,7 +153,6 @@ fn write_changed<F: Flavor>(
     ensures width { (result.0 ≡ width_at F.flavor bytes.now at) × (0 < result.0) }
     ensures written { WritesAt (decoded F.flavor (window_of bytes.now) at result.0)
         end out.old out.new result.1 }
-    ensures end { result.1 ≤ end + result.0 }
 {
     // Computes the UTF-8 of a pair even if there is none, and chooses by `is_null` after that. A
     // branch would be mispredicted if pairs and C0 80 alternate.

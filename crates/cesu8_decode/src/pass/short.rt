@@ -14,11 +14,11 @@ ghost use Rattle.cesu8_decode.specs.Masks.{IsWindow};
 use super::window::WIDEST;
 use crate::lanes::padded::load;
 use crate::lanes::windows::{Window, window_of_short};
-use crate::pass::events::{STORED_AFTER, write_events, write_ill_formed_events};
+use crate::pass::events::{STORED_AFTER, write_ill_formed_events, write_well_formed_events};
 use crate::prefix::UnchangedPrefix;
 use cesu8_bytes::flavor::Flavor;
 use cesu8_bytes::lanes::class::{Equal, LANES, bits};
-use cesu8_bytes::strictness::{Reading, StrictReading, Strictness};
+use cesu8_bytes::strictness::{Reading, Strictness};
 use std::simd::prelude::*;
 
 // The lengths of buffers for the longest text, and for what is stored after it.
@@ -67,7 +67,7 @@ fn write_well_formed<F: Flavor>(bytes: &[u8], changed: u64, out: &mut [u8]) -> u
     let mut source = [0; SOURCE];
     load(bytes, &mut source);
     let window = changed_window::<F>(&source, changed, bytes.len());
-    write_events::<F, StrictReading>(&source, 0, window, out, 0)
+    write_well_formed_events::<F>(&source, 0, window, out, 0)
 }
 
 /// Writes the lossily decoded text of at most 64 bytes, of which any may be ill-formed, and returns

@@ -1,7 +1,7 @@
 //! Writes the text of one window.
 //!
-//! `window_at` computes the masks of the events and where the last character ends, and
-//! `write_events` writes the text. A window begins and ends at character boundaries, so one can be
+//! `window_at` computes the masks of the events and where the last character ends, and `events`
+//! writes the text. A window begins and ends at character boundaries, so one can be
 //! written after another. In strict decoding a window with an ill-formed byte is not written.
 
 ghost use Rattle.std.specs.Prelude.{◌≡◌, ℕ, ◌+◌, ◌-◌, ◌≤◌, ◌⊎◌, true, false, length, slice_index};
@@ -9,10 +9,10 @@ ghost use Rattle.cesu8_decode.specs.Decoding.{WritesDecoded};
 ghost use Rattle.cesu8_decode.specs.DecodedOffsets.{is_boundary_at, window_of};
 
 use crate::lanes::windows::{STEP, window_at};
-use crate::pass::events::{STORED_AFTER, write_events};
+use crate::pass::events::{STORED_AFTER, write_ill_formed_events, write_well_formed_events};
 use cesu8_bytes::flavor::Flavor;
 use cesu8_bytes::lanes::class::LANES;
-use cesu8_bytes::strictness::{LossyReading, Strictness};
+use cesu8_bytes::strictness::Strictness;
 
 /// The most bytes that are written for one byte: the length of the replacement character.
 pub const WIDEST: usize = 3;
@@ -60,19 +60,26 @@ pub fn write_window<F: Flavor>(
     ensures unchanged { result.is_unchanged ≡ true → result.is_rejected ≡ false }
 {
     let window = window_at::<F>(bytes, at, count);
-    if window.ill_formed != 0 && matches!(strictness, Strictness::Strict) {
+    if window.ill_formed == 0 {
         return Written {
+            read: window.len,
+            end: write_well_formed_events::<F>(bytes, at, window, out, end),
+            is_rejected: false,
+            is_unchanged: window.pairs | window.nulls == 0,
+        };
+    }
+    match strictness {
+        Strictness::Strict => Written {
             read: window.len,
             end,
             is_rejected: true,
             is_unchanged: false,
-        };
-    }
-    // `LossyReading` only says that there is space for replacement characters (`ROOM`).
-    Written {
-        read: window.len,
-        end: write_events::<F, LossyReading>(bytes, at, window, out, end),
-        is_rejected: false,
-        is_unchanged: window.ill_formed | window.pairs | window.nulls == 0,
+        },
+        Strictness::Lossy => Written {
+            read: window.len,
+            end: write_ill_formed_events::<F>(bytes, at, window, out, end),
+            is_rejected: false,
+            is_unchanged: false,
+        },
     }
 }

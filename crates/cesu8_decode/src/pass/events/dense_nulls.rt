@@ -3,8 +3,7 @@
 //! C0 becomes 00 and 80 is dropped, so shuffles pack the bytes by eights, with no branch on a byte.
 
 ghost use Rattle.std.specs.Prelude.{◌≡◌, ◌+◌, ◌≤◌, ◌==◌, if◌then◌else◌, true, length, map};
-ghost use Rattle.cesu8_bytes.specs.Puts.{WritesAt};
-ghost use Rattle.cesu8_decode.specs.DecodedOffsets.{decoded, window_of};
+ghost use Rattle.cesu8_decode.specs.Decoding.{WritesWindow};
 ghost use Rattle.cesu8_decode.specs.Masks.{HoldWindow};
 
 use crate::lanes::windows::Window;
@@ -27,8 +26,7 @@ pub fn write_nulls<F: Flavor>(
     requires window { HoldWindow F.flavor bytes.now at window }
     requires nulls { (window.pairs ≡ 0) × (window.ill_formed ≡ 0) }
     requires room { end + LANES + LANES ≤ length out.old }
-    ensures { WritesAt (decoded F.flavor (window_of bytes.now) at window.len)
-        end out.old out.new result }
+    ensures { WritesWindow F.flavor bytes.now at window end out.old out.new result }
 {
     let left_out = window.nulls << 1;
     let mut written = 0;

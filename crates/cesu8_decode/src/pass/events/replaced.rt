@@ -7,7 +7,7 @@ ghost use Rattle.std.specs.Prelude.{◌≡◌, List, Bool, ◌+◌, ◌*◌, ◌
 ghost use Rattle.std.specs.Simd.Lanes.{mask_l};
 ghost use Rattle.cesu8_bytes.specs.Packing.{written, kept_of, lanes_at};
 ghost use Rattle.cesu8_bytes.specs.Puts.{WritesAt};
-ghost use Rattle.cesu8_decode.specs.DecodedOffsets.{decoded, window_of};
+ghost use Rattle.cesu8_decode.specs.Decoding.{WritesWindow};
 ghost use Rattle.cesu8_decode.specs.Masks.{HoldWindow, AreShufflesOfReplaced};
 
 use crate::lanes::windows::Window;
@@ -59,8 +59,7 @@ pub fn write_replaced<F: Flavor>(
     requires window { HoldWindow F.flavor bytes.now at window }
     requires replaced { (window.pairs ≡ 0) × (window.nulls ≡ 0) }
     requires room { end + REPLACEMENT * LANES + LANES ≤ length out.old }
-    ensures { WritesAt (decoded F.flavor (window_of bytes.now) at window.len)
-        end out.old out.new result }
+    ensures { WritesWindow F.flavor bytes.now at window end out.old out.new result }
 {
     let mut written = 0;
     let mut end = end;

@@ -6,16 +6,9 @@ use Rattle.cesu8_decode.proofs.decoder.Events.{none_read, next_low, next_inside,
 use Rattle.cesu8_decode.proofs.decoder.WindowEnds.{null_set}
 use Rattle.cesu8_decode.proofs.by_offset.CharacterBoundaries.{width_bounds}
 use Rattle.cesu8_decode.proofs.pass.events.write_in_turn.Goals as goal
-use Rattle.cesu8_decode.proofs.pass.events.write_in_turn.Goals.{in-Strict, in-Lossy}
 
 pub loop-events-init : goal.loop-events-init
-loop-events-init g c =
-    none_read c.requires.window g.S.Reading.which c.args.end c.args.out.now c.match-strictness.ill_formed
-    (elim c.match-strictness.branch [
-      | in-Strict w ↦ w.ill_formed-is ∙ sym (c.requires.strict (sym c.strictness.ensures ∙ w.in-Strict.is))
-      | in-Lossy w ↦ w.ill_formed-is
-    ])
-    c.type_inv.ill_formed.fits
+loop-events-init g c = none_read c.args.end c.args.out.now c.requires.window
 
 pub overflow_sub-next : goal.overflow_sub-next
 overflow_sub-next g c =
@@ -27,7 +20,7 @@ put_replacements-requires-clause-room g c =
     let loop = c.loop-events in
     let room = run_room loop.invariant (omega (arith, c.loop-events-test.true)) loop.auto.events-fits.fits
     c.copy_between-copied.result 0 c.copy_between-copied.new.out c.copy_between-copied.new.out c.copy_between-copied.ensures
-    c.trailing_ones-run.result (omega (arith, c.if-run-ne0.true)) c.trailing_ones-run.ensures c.type_inv.ill_formed.fits c.requires.strict in
+    c.trailing_ones-run.result (omega (arith, c.if-run-ne0.true)) c.trailing_ones-run.ensures in
     omega (arith, room, c.requires.room, c.copy_between-copied.ensures.len, loop.invariant.text.len)
 
 pub write_changed-len-requires-clause-bytes : goal.write_changed-len-requires-clause-bytes
@@ -43,7 +36,7 @@ pub write_changed-len-requires-clause-pair : goal.write_changed-len-requires-cla
 write_changed-len-requires-clause-pair g c =
     let loop = c.loop-events in
     λ other. pair_marked loop.invariant (omega (arith, c.loop-events-test.true)) loop.auto.events-fits.fits
-    (sym c.trailing_ones-run.ensures ∙ omega (arith, c.if-run-ne0.false)) ((bit_tested c.args.window.nulls _).1 other) c.type_inv.ill_formed.fits
+    (sym c.trailing_ones-run.ensures ∙ omega (arith, c.if-run-ne0.false)) ((bit_tested c.args.window.nulls _).1 other)
 
 pub write_changed-len-requires-clause-room : goal.write_changed-len-requires-clause-room
 write_changed-len-requires-clause-room g c =
@@ -64,7 +57,7 @@ loop-events-preserved-then-run-ne0 g c =
     let loop = c.loop-events in
     run_read loop.invariant (omega (arith, c.loop-events-test.true)) loop.auto.events-fits.fits
     c.copy_between-copied.result c.put_replacements.result c.copy_between-copied.new.out c.put_replacements.new.out c.copy_between-copied.ensures
-    c.trailing_ones-run.result (omega (arith, c.if-run-ne0.true)) c.trailing_ones-run.ensures c.type_inv.ill_formed.fits c.requires.strict c.put_replacements.ensures
+    c.trailing_ones-run.result (omega (arith, c.if-run-ne0.true)) c.trailing_ones-run.ensures c.put_replacements.ensures
 
 pub loop-events-preserved : goal.loop-events-preserved
 loop-events-preserved g c =
@@ -72,7 +65,7 @@ loop-events-preserved g c =
     let changed = c.write_changed-len in
     changed_read loop.invariant (omega (arith, c.loop-events-test.true)) loop.auto.events-fits.fits
     c.copy_between-copied.result changed.result.1 c.copy_between-copied.new.out changed.new.out c.copy_between-copied.ensures
-    changed.result.0 changed.ensures.width.1 changed.ensures.width.0 changed.ensures.written changed.ensures.end
+    changed.result.0 changed.ensures.width.1 changed.ensures.width.0 changed.ensures.written
 
 pub returns : goal.returns
 returns g c =
