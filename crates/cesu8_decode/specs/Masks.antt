@@ -78,12 +78,13 @@ pub record IsWindow (f : Flavor) (bytes : List ℕ) (at : ℕ) (window : Window)
   -- The window ends at a character boundary.
   pub boundary : is_boundary_at f (window_of bytes) (at + window.len) ≡ true
 
--- A window of the bytes begins at offset `at`, which is a character boundary, and 64 bytes can be
--- loaded after it.
-pub record HoldWindow (f : Flavor) (bytes : List ℕ) (at : ℕ) (window : Window) : Type 0 where
+-- A window of at most `width` bytes begins at offset `at`, which is a character boundary, and as
+-- many bytes can be loaded after it.
+pub record HoldWindow (f : Flavor) (bytes : List ℕ) (at width : ℕ) (window : Window) : Type 0 where
   pub is_window : IsWindow f bytes at window
   pub boundary : is_boundary_at f (window_of bytes) at ≡ true
-  pub after : at + window.len + 64 ≤ length bytes
+  pub few : window.len ≤ width
+  pub after : at + window.len + width ≤ length bytes
 
 -- Row `ill_formed` is the shuffle that puts the replacement character in place of those of four
 -- bytes whose bit is set.

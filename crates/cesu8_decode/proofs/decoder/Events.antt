@@ -37,7 +37,7 @@ written_next : (f : Flavor) (bytes : List ℕ) (at m n start middle end : ℕ) (
 written_next f bytes at m n start middle end old mid new first next =
     subst (λ bs. WritesAt bs start old new end) (sym (decoded_split f (window_of bytes) at m n)) (written_after _ _ old mid new start middle end first next)
 
-module _ {f : Flavor} {bytes : List ℕ} {at : ℕ} {window : Window} (holds : HoldWindow f bytes at window) where
+module _ {f : Flavor} {bytes : List ℕ} {at : ℕ} {width : ℕ} {window : Window} (holds : HoldWindow f bytes at width window) where
   abbrev is : IsWindow f bytes at window
   is = holds.is_window
 
@@ -71,8 +71,8 @@ module _ {f : Flavor} {bytes : List ℕ} {at : ℕ} {window : Window} (holds : H
 -- The state of the loop: `read` bytes of the window are read, and their text is written to the
 -- buffer, which was `old` and is `new`, from `start` up to `end`. `events` has the bits of the
 -- events that are left.
-pub record AreRead (f : Flavor) (bytes : List ℕ) (at : ℕ) (window : Window) (start : ℕ) (old : List ℕ) (read events end : ℕ) (new : List ℕ) : Type 0 where
-  pub holds : HoldWindow f bytes at window
+pub record AreRead (f : Flavor) (bytes : List ℕ) (at width : ℕ) (window : Window) (start : ℕ) (old : List ℕ) (read events end : ℕ) (new : List ℕ) : Type 0 where
+  pub holds : HoldWindow f bytes at width window
   pub left : AreLeft (changing window) window.ill_formed read events
   pub within : read ≤ window.len
   pub boundary : is_boundary_at f (window_of bytes) (at + read) ≡ true
@@ -80,10 +80,10 @@ pub record AreRead (f : Flavor) (bytes : List ℕ) (at : ℕ) (window : Window) 
   pub room : end ≤ start + most_of_window window
 
 -- Before the loop no byte is read.
-pub none_read : {f : Flavor} {bytes : List ℕ} {at : ℕ} {window : Window} (start : ℕ) (old : List ℕ) → HoldWindow f bytes at window →
-    AreRead f bytes at window start old 0 (events_of window) start old
+pub none_read : {f : Flavor} {bytes : List ℕ} {at width : ℕ} {window : Window} (start : ℕ) (old : List ℕ) → HoldWindow f bytes at width window →
+    AreRead f bytes at width window start old 0 (events_of window) start old
 unfolding decoded
-none_read {f = f} {bytes = bytes} {at = at} {window = window} start old holds = record {
+none_read {f = f} {bytes = bytes} {at = at} {width = width} {window = window} start old holds = record {
   holds = holds;
   left = record { gone = λ i never. absurd (omega arith); same = λ i low. refl; fresh = first_begins (changing window) window.ill_formed (fits holds) };
   within = omega arith;
@@ -92,8 +92,8 @@ none_read {f = f} {bytes = bytes} {at = at} {window = window} start old holds = 
   room = omega arith;
 }
 
-module _ {f : Flavor} {bytes : List ℕ} {at : ℕ} {window : Window} {start : ℕ} {old : List ℕ} {read events end : ℕ} {new : List ℕ}
-    (so_far : AreRead f bytes at window start old read events end new) where
+module _ {f : Flavor} {bytes : List ℕ} {at width : ℕ} {window : Window} {start : ℕ} {old : List ℕ} {read events end : ℕ} {new : List ℕ}
+    (so_far : AreRead f bytes at width window start old read events end new) where
   abbrev w : IsWindow f bytes at window
   w = so_far.holds.is_window
 
@@ -172,7 +172,7 @@ module _ {f : Flavor} {bytes : List ℕ} {at : ℕ} {window : Window} {start : �
       event_read : (m : ℕ) → 0 < m → next + m ≤ window.len → ((i : ℕ) → next < i → i < next + m → bit_at (events_of window) i ≡ 0) →
           (bit_at ill (next + m) ≡ 1 → bit_at (events_of window) (next + m) ≡ 1) → is_boundary_at f (window_of bytes) (at + (next + m)) ≡ true →
           WritesAt (decoded f (window_of bytes) (at + next) m) copied mid last after →
-          AreRead f bytes at window start old (next + m) (bit_and events (events - 1)) after last
+          AreRead f bytes at width window start old (next + m) (bit_and events (events - 1)) after last
       event_read m some within none begins boundary written =
           let text = written_next f bytes at next m start copied after old mid last before written in record {
             holds = so_far.holds;
@@ -213,7 +213,7 @@ module _ {f : Flavor} {bytes : List ℕ} {at : ℕ} {window : Window} {start : �
 
         -- After it the loop's state holds again.
         pub run_read : WritesAt (utf8 (replicate n 0xFFFD)) copied mid last after →
-            AreRead f bytes at window start old (next + n) (bit_and events (events - 1)) after last
+            AreRead f bytes at width window start old (next + n) (bit_and events (events - 1)) after last
         run_read replaced =
             let behind : at + (next + n - 1) + 1 ≡ at + (next + n) = omega arith in
             event_read n some within
@@ -238,12 +238,12 @@ module _ {f : Flavor} {bytes : List ℕ} {at : ℕ} {window : Window} {start : �
             ))
 
         pub changed_read : WritesAt (decoded f (window_of bytes) (at + next) m) copied mid last after →
-            AreRead f bytes at window start old (next + m) (bit_and events (events - 1)) after last
+            AreRead f bytes at width window start old (next + m) (bit_and events (events - 1)) after last
         changed_read changed =
             let behind : at + (next + m) ≡ at + next + m = omega arith in
             let within = ends_within w next m some wide next_begins in
             event_read m some within
-            (λ i low inside. no_event so_far.holds i (i - 1) (omega arith) (none_inside w next m some wide next_begins so_far.holds.after i low inside) (inl (covered i (omega arith) inside)))
+            (λ i low inside. no_event so_far.holds i (i - 1) (omega arith) (none_inside w next m some wide next_begins (omega (arith, so_far.holds.after)) i low inside) (inl (covered i (omega arith) inside)))
             (run_begins (changing window) ill ill_fits (next + m) (next + m - 1) (omega arith) (covered (next + m - 1) (omega arith) (omega arith)))
             (ap (is_boundary_at f (window_of bytes)) behind ∙ boundary_after_character f bytes (at + next) m (omega (arith, so_far.holds.after, within)) some (width_there f bytes (at + next) ∙ sym wide))
             changed

@@ -190,7 +190,7 @@ abbrev pub null_packed : (bytes : List ℕ) (at nulls : ℕ) → ℕ → List �
 null_packed bytes at nulls i =
     written_for (eqb (bit_at (nulls * 2 % 2 ^ 64) i) 1) false (cond (eqb (get_or bytes (at + i) 0) 0xC0) 0 (get_or bytes (at + i) 0))
 
-module _ {f : Flavor} {bytes : List ℕ} {at : ℕ} {window : Window} (holds : HoldWindow f bytes at window) (no_pairs : window.pairs ≡ 0) (none : window.ill_formed ≡ 0) where
+module _ {f : Flavor} {bytes : List ℕ} {at : ℕ} {window : Window} (holds : HoldWindow f bytes at 64 window) (no_pairs : window.pairs ≡ 0) (none : window.ill_formed ≡ 0) where
   abbrev is : IsWindow f bytes at window
   is = holds.is_window
 
@@ -240,7 +240,7 @@ module _ {f : Flavor} {bytes : List ℕ} {at : ℕ} {window : Window} (holds : H
       let within = ends_within is i 2 (omega arith) wide begins.0 in
       let next : bit_at window.nulls (i + 1) ≡ 0 = unset window.nulls (i + 1) (λ set.
       true≢false (sym (null_set is (i + 1) set).1
-      ∙ (none_changes is (at + (i + 1)) (none_inside is i 2 (omega arith) wide begins.0 holds.after (i + 1) (omega arith) (omega arith))).1)) in
+      ∙ (none_changes is (at + (i + 1)) (none_inside is i 2 (omega arith) wide begins.0 (omega (arith, holds.after)) (i + 1) (omega arith) (omega arith))).1)) in
       let all : 2 + (r - 1) ≡ suc r = omega arith in
       let after : at + (i + 2) ≡ at + i + 2 = omega arith in
       let second : i + 1 + 1 ≡ i + 2 = omega arith in
@@ -321,7 +321,7 @@ module _ {f : Flavor} {bytes : List ℕ} {at : ℕ} {window : Window} (holds : H
 abbrev pub replaced : (bytes : List ℕ) (at ill : ℕ) → ℕ → List ℕ
 replaced bytes at ill i = written_for false (eqb (bit_at ill i) 1) (get_or bytes (at + i) 0)
 
-module _ {f : Flavor} {bytes : List ℕ} {at : ℕ} {window : Window} (holds : HoldWindow f bytes at window) (no_pairs : window.pairs ≡ 0) (no_nulls : window.nulls ≡ 0) where
+module _ {f : Flavor} {bytes : List ℕ} {at : ℕ} {window : Window} (holds : HoldWindow f bytes at 64 window) (no_pairs : window.pairs ≡ 0) (no_nulls : window.nulls ≡ 0) where
   abbrev stored : ℕ → List ℕ
   stored = replaced bytes at window.ill_formed
 

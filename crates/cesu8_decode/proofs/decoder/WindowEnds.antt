@@ -67,7 +67,7 @@ module _ {f : Flavor} {bytes : List ℕ} {at : ℕ} {window : Window} (is : IsWi
         (λ (fits : next + m ≤ window.len). fits)
         (cases_lt window.len (next + m))
 
-    pub none_inside : at + window.len + 64 ≤ length bytes → (i : ℕ) → next < i → i < next + m → w (at + i) ≡ 0
+    pub none_inside : at + window.len ≤ length bytes → (i : ℕ) → next < i → i < next + m → w (at + i) ≡ 0
     none_inside long i low inside =
         ⊎_elim (λ (begun : 0 < w (at + i)).
         absurd (omega (

@@ -1,6 +1,6 @@
 -- What functions return that write a window. Their proofs find these lemmas by search, so they name
 -- no variable or branch, and a rewritten body keeps its proof.
-use Rattle.std.proofs.Common.{◌≡◌, ℕ, ◌+◌, ◌≤◌, List, ◌++◌, take, drop, replicate, length, ap, sym, ◌∙◌, add_comm, arith, length-drop}
+use Rattle.std.proofs.Common.{◌≡◌, ℕ, ◌+◌, ◌≤◌, List, ◌++◌, take, drop, replicate, length, sym, subst, arith, length-drop}
 use Rattle.std.proofs.lemmas.List.{length-take-le, take-take}
 use Rattle.cesu8_text.specs.Encoding.{Flavor}
 use Rattle.cesu8_bytes.specs.Puts.{WritesAt}
@@ -14,25 +14,14 @@ use Rattle.cesu8_decode.specs.declared.lanes.windows.Window.{Window}
 use Rattle.cesu8_decode.proofs.decoder.PaddedWindows.{alike_with_zeros, window_of_alike}
 use Rattle.cesu8_decode.proofs.decoder.Passes.{text_of_window}
 
--- Of the 64 bytes that are stored, the first `count` are those that are copied.
-pub first_stored : (end : ℕ) (old : List ℕ) (count at : ℕ) (bytes new : List ℕ) (m : ℕ) → WritesAt (take 64 (drop at bytes)) end old new m →
-    count ≤ 64 → at + 64 ≤ length bytes → end ≤ length old → take end old ++ take count (drop at bytes) ≡ take (end + count) new
-first_stored end old count at bytes new m writes few inside room =
+-- Of the bytes that are stored, the first `count` are those that are copied.
+pub first_copied : (width count at end m : ℕ) (bytes old new : List ℕ) → WritesAt (take width (drop at bytes)) end old new m →
+    count ≤ width → at + width ≤ length bytes → end ≤ length old → WritesAt (take count (drop at bytes)) end old new (end + count)
+first_copied width count at end m bytes old new writes few inside room =
     let rest = drop at bytes in
-    let long = length-take-le 64 rest (omega (arith, length-drop at bytes, inside)) in
-    ap (λ bs. take end old ++ bs) (sym (take-take count 64 rest few))
-    ∙ sym (first_written count end m (take 64 rest) old new (omega (arith, long, few)) room writes).bytes
-
--- The same with the sum's operands exchanged.
-pub first_stored_from : (end : ℕ) (old : List ℕ) (count at : ℕ) (bytes new : List ℕ) (m : ℕ) → WritesAt (take 64 (drop at bytes)) end old new m →
-    count ≤ 64 → at + 64 ≤ length bytes → end ≤ length old → take end old ++ take count (drop at bytes) ≡ take (count + end) new
-first_stored_from end old count at bytes new m writes few inside room =
-    first_stored end old count at bytes new m writes few inside room ∙ ap (λ n. take n new) (add_comm end count)
-
-pub length_first : (count at : ℕ) (bytes : List ℕ) → at + count ≤ length bytes → length (take count (drop at bytes)) ≡ count
-length_first count at bytes inside = length-take-le count (drop at bytes) (omega (arith, length-drop at bytes))
-
-pub ruleset copied_between = (first_stored, first_stored_from, length_first)
+    let long = length-take-le width rest (omega (arith, length-drop at bytes, inside)) in
+    let first = first_written count end m (take width rest) old new (omega (arith, long, few)) room writes in
+    subst (λ bs. WritesAt bs end old new (end + count)) (take-take count width rest few) first
 
 -- ---- at most 64 bytes, with zeros after them
 

@@ -15,6 +15,7 @@ mod dense_nulls;
 mod replaced;
 
 use crate::lanes::windows::Window;
+use cesu8_bytes::BLOCK;
 use cesu8_bytes::flavor::Flavor;
 use cesu8_bytes::lanes::class::LANES;
 use cesu8_bytes::pairs::{PAIR, PAIR_READ, PAIR_UTF8, utf8_of_pair};
@@ -40,7 +41,7 @@ const REPLACEMENTS: [u8; 32] = [
 ];
 
 /// If a window has at least this many C0 80, and no other event, shuffles pack it.
-const MANY_NULLS: u32 = 4;
+pub const MANY_NULLS: u32 = 4;
 /// If a window has at least this many runs of ill-formed bytes, and no other event, shuffles pack
 /// it. Fewer runs are faster by stores of the replacement character.
 const MANY_RUNS: u32 = 5;
@@ -54,7 +55,7 @@ pub fn write_well_formed_events<F: Flavor>(
     out: &mut [u8],
     end: usize,
 ) -> usize
-    requires window { HoldWindow F.flavor bytes.now at window }
+    requires window { HoldWindow F.flavor bytes.now at LANES window }
     requires whole { window.ill_formed ≡ 0 }
     requires room { end + LANES + STORED_AFTER ≤ length out.old }
     ensures { WritesWindow F.flavor bytes.now at window end out.old out.new result }
@@ -62,7 +63,7 @@ pub fn write_well_formed_events<F: Flavor>(
     if window.pairs == 0 && window.nulls.count_ones() >= MANY_NULLS {
         return write_nulls::<F>(bytes, at, window, out, end);
     }
-    write_in_turn::<F>(bytes, at, window, out, end)
+    write_in_turn::<F, LANES>(bytes, at, window, out, end)
 }
 
 /// Writes the text of any window, and returns its end. It is meant for a window that has ill-formed
@@ -76,7 +77,7 @@ pub fn write_ill_formed_events<F: Flavor>(
     out: &mut [u8],
     end: usize,
 ) -> usize
-    requires window { HoldWindow F.flavor bytes.now at window }
+    requires window { HoldWindow F.flavor bytes.now at LANES window }
     requires room { end + REPLACEMENT * LANES + STORED_AFTER ≤ length out.old }
     ensures { WritesWindow F.flavor bytes.now at window end out.old out.new result }
 {
@@ -85,21 +86,23 @@ pub fn write_ill_formed_events<F: Flavor>(
     if changed == 0 && runs.count_ones() >= MANY_RUNS {
         return write_replaced::<F>(bytes, at, window, out, end);
     }
-    write_in_turn::<F>(bytes, at, window, out, end)
+    write_in_turn::<F, LANES>(bytes, at, window, out, end)
 }
 
 /// Writes the events one after another, and copies the bytes between them. If `ill_formed` is known
-/// to be 0, it is compiled without the code that replaces ill-formed bytes.
+/// to be 0, it is compiled without the code that replaces ill-formed bytes. Each copy stores `WIDTH`
+/// bytes, the length of the longest window.
 #[inline(always)]
-fn write_in_turn<F: Flavor>(
+pub fn write_in_turn<F: Flavor, const WIDTH: usize>(
     bytes: &[u8],
     at: usize,
     window: Window,
     out: &mut [u8],
     end: usize,
 ) -> usize
-    requires window { HoldWindow F.flavor bytes.now at window }
-    requires room { end + most_of_window window + STORED_AFTER ≤ length out.old }
+    requires width { (BLOCK ≤ WIDTH) × (WIDTH ≤ LANES) }
+    requires window { HoldWindow F.flavor bytes.now at WIDTH window }
+    requires room { end + most_of_window window + WIDTH ≤ length out.old }
     ensures { WritesWindow F.flavor bytes.now at window end out.old out.new result }
 {
     let ill_formed = window.ill_formed;
@@ -109,7 +112,7 @@ fn write_in_turn<F: Flavor>(
     while events != 0 {
         let next = events.trailing_zeros() as usize;
         events &= events - 1;
-        let copied = copy_between(bytes, at + read, next - read, out, end);
+        let copied = copy_between::<WIDTH>(bytes, at + read, next - read, out, end);
         let run = (ill_formed >> next).trailing_ones() as usize;
         (read, end) = if run != 0 {
             (next + run, put_replacements(run, out, copied))
@@ -119,20 +122,26 @@ fn write_in_turn<F: Flavor>(
             (next + len, end)
         };
     }
-    copy_between(bytes, at + read, window.len - read, out, end)
+    copy_between::<WIDTH>(bytes, at + read, window.len - read, out, end)
 }
 
-/// Copies `count` bytes, at most 64, from an offset on, and returns their end. It always stores 64
-/// bytes, so that no branch depends on the count.
+/// Copies `count` bytes, at most `WIDTH`, from an offset on, and returns their end. It always stores
+/// `WIDTH` bytes, so that no branch depends on the count.
 #[inline(always)]
-#[tactic(auto, using(crate::proofs::decoder::WindowReturns::copied_between))]
-fn copy_between(bytes: &[u8], at: usize, count: usize, out: &mut [u8], end: usize) -> usize
-    requires count { count ≤ LANES }
-    requires bytes { at + LANES ≤ length bytes.now }
-    requires room { end + LANES ≤ length out.old }
+fn copy_between<const WIDTH: usize>(
+    bytes: &[u8],
+    at: usize,
+    count: usize,
+    out: &mut [u8],
+    end: usize,
+) -> usize
+    requires width { WIDTH ≤ LANES }
+    requires count { count ≤ WIDTH }
+    requires bytes { at + WIDTH ≤ length bytes.now }
+    requires room { end + WIDTH ≤ length out.old }
     ensures { WritesAt (take count (drop at bytes.now)) end out.old out.new result }
 {
-    put_lanes(u8x64::from_slice(&bytes[at..]), out, end);
+    put_lanes(Simd::<u8, WIDTH>::from_slice(&bytes[at..]), out, end);
     end + count
 }
 
@@ -171,7 +180,7 @@ fn write_changed<F: Flavor>(
 #[inline(always)]
 fn put_replacements(count: usize, out: &mut [u8], end: usize) -> usize
     requires count { count ≤ LANES }
-    requires room { end + REPLACEMENT * count + STORED_AFTER ≤ length out.old }
+    requires room { end + REPLACEMENT * count + BLOCK ≤ length out.old }
     ensures { WritesAt (utf8 (replicate count 0xFFFD)) end out.old out.new result }
 {
     let replacements = u8x32::from_array(REPLACEMENTS);

@@ -14,8 +14,12 @@ ghost use Rattle.cesu8_decode.specs.Masks.{IsWindow};
 use super::window::WIDEST;
 use crate::lanes::padded::load;
 use crate::lanes::windows::{Window, window_of_short};
-use crate::pass::events::{STORED_AFTER, write_ill_formed_events, write_well_formed_events};
+use crate::pass::events::{
+    MANY_NULLS, STORED_AFTER, write_ill_formed_events, write_in_turn, write_well_formed_events,
+};
 use crate::prefix::UnchangedPrefix;
+use crate::strategy::is_one_block;
+use cesu8_bytes::BLOCK;
 use cesu8_bytes::flavor::Flavor;
 use cesu8_bytes::lanes::class::{Equal, LANES, bits};
 use cesu8_bytes::strictness::{Reading, Strictness};
@@ -26,7 +30,7 @@ pub const SHORT_STRICT: usize = LANES + STORED_AFTER;
 
 pub const SHORT_LOSSY: usize = WIDEST * LANES + STORED_AFTER;
 
-/// The length of an array for the bytes, and for the zeros after them that are loaded too.
+/// The length of an array for 64 bytes, and for as many zeros after them that are loaded too.
 const SOURCE: usize = LANES + LANES;
 
 /// Writes the decoded text of at most 64 bytes and returns its length, or returns an error if
@@ -64,9 +68,16 @@ fn write_well_formed<F: Flavor>(bytes: &[u8], changed: u64, out: &mut [u8]) -> u
     ensures { (which : AnyStrictness)
         → WritesText F.flavor which bytes.now result out.old out.new }
 {
+    // Up to 32 bytes take half as many loads and stores, unless shuffles pack many C0 80.
+    if is_one_block(bytes) && !(F::has_long_null() && changed.count_ones() >= MANY_NULLS) {
+        let mut source = [0; BLOCK + BLOCK];
+        load(bytes, &mut source);
+        let window = changed_window::<F, BLOCK>(&source, changed, bytes.len());
+        return write_in_turn::<F, BLOCK>(&source, 0, window, out, 0);
+    }
     let mut source = [0; SOURCE];
     load(bytes, &mut source);
-    let window = changed_window::<F>(&source, changed, bytes.len());
+    let window = changed_window::<F, LANES>(&source, changed, bytes.len());
     write_well_formed_events::<F>(&source, 0, window, out, 0)
 }
 
@@ -87,9 +98,9 @@ fn write_lossily<F: Flavor>(bytes: &[u8], out: &mut [u8]) -> usize
 /// Returns the window of the first `len` bytes of the source, none of which is ill-formed, from the
 /// mask of the characters that need conversion. In MUTF-8 those that begin with C0 are C0 80.
 #[inline(always)]
-fn changed_window<F: Flavor>(source: &[u8], changed: u64, len: usize) -> Window
-    requires source { length source.now ≡ SOURCE }
-    requires len { len ≤ LANES }
+fn changed_window<F: Flavor, const WIDTH: usize>(source: &[u8], changed: u64, len: usize) -> Window
+    requires source { (WIDTH ≤ LANES) × (WIDTH ≤ length source.now) }
+    requires len { len ≤ WIDTH }
     requires zeros { (i : ℕ) → len ≤ i → slice_index source.now i ≡ 0 }
     requires changed { AreChanges F.flavor (take len source.now) changed }
     ensures window { IsWindow F.flavor source.now 0 result }
@@ -97,7 +108,7 @@ fn changed_window<F: Flavor>(source: &[u8], changed: u64, len: usize) -> Window
     ensures len { result.len ≡ len }
 {
     let nulls = if F::has_long_null() {
-        changed & bits::<Equal<0xC0>, LANES>(u8x64::from_slice(source))
+        changed & bits::<Equal<0xC0>, WIDTH>(Simd::from_slice(source))
     } else {
         0
     };

@@ -23,7 +23,7 @@ pub fn write_nulls<F: Flavor>(
     out: &mut [u8],
     end: usize,
 ) -> usize
-    requires window { HoldWindow F.flavor bytes.now at window }
+    requires window { HoldWindow F.flavor bytes.now at LANES window }
     requires nulls { (window.pairs ≡ 0) × (window.ill_formed ≡ 0) }
     requires room { end + LANES + LANES ≤ length out.old }
     ensures { WritesWindow F.flavor bytes.now at window end out.old out.new result }

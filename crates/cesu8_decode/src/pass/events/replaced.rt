@@ -56,7 +56,7 @@ pub fn write_replaced<F: Flavor>(
     out: &mut [u8],
     end: usize,
 ) -> usize
-    requires window { HoldWindow F.flavor bytes.now at window }
+    requires window { HoldWindow F.flavor bytes.now at LANES window }
     requires replaced { (window.pairs ≡ 0) × (window.nulls ≡ 0) }
     requires room { end + REPLACEMENT * LANES + LANES ≤ length out.old }
     ensures { WritesWindow F.flavor bytes.now at window end out.old out.new result }

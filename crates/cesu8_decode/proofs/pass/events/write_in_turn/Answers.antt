@@ -15,6 +15,11 @@ overflow_sub-next g c =
     let loop = c.loop-events in
     next_low loop.invariant (omega (arith, c.loop-events-test.true)) loop.auto.events-fits.fits
 
+pub copy_between-copied-requires-clause-count : goal.copy_between-copied-requires-clause-count
+copy_between-copied-requires-clause-count g c =
+    let loop = c.loop-events in
+    omega (arith, c.requires.window.few, next_inside loop.invariant (omega (arith, c.loop-events-test.true)) loop.auto.events-fits.fits)
+
 pub put_replacements-requires-clause-room : goal.put_replacements-requires-clause-room
 put_replacements-requires-clause-room g c =
     let loop = c.loop-events in

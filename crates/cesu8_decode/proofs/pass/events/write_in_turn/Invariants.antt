@@ -6,7 +6,7 @@ use Rattle.cesu8_decode.proofs.pass.events.write_in_turn.Given as goal
 
 abbrev pub invariant-loop-events : goal.invariant-loop-events
 invariant-loop-events g l =
-    AreRead g.F.Flavor.flavor l.bytes l.at l.window l.initial.end l.initial.out l.read l.events l.end l.out
+    AreRead g.F.Flavor.flavor l.bytes l.at g.row.WIDTH l.window l.initial.end l.initial.out l.read l.events l.end l.out
 
 abbrev pub decreases-loop-events : goal.decreases-loop-events
 decreases-loop-events g l = l.events

@@ -13,13 +13,13 @@ use Rattle.cesu8_decode.proofs.decoder.PaddedWindows.{alike_without_zeros, windo
 use Rattle.cesu8_decode.proofs.decoder.MaskBits.{class_bits}
 use Rattle.cesu8_decode.proofs.pass.short.changed_window.Goals as goal
 
-module _ (f : Flavor) (source : List ℕ) (len changed nulls : ℕ) (long : 64 ≤ length source) (few : len ≤ 64) (zeros : (i : ℕ) → len ≤ i → get_or source i 0 ≡ 0)
+module _ (f : Flavor) (source : List ℕ) (width len changed nulls : ℕ) (narrow : width ≤ 64) (long : width ≤ length source) (few : len ≤ width) (zeros : (i : ℕ) → len ≤ i → get_or source i 0 ≡ 0)
     (changes : AreChanges f (take len source) changed) (fits : changed < 2 ^ 64) where
   abbrev bytes : List ℕ
   bytes = take len source
 
   abbrev c0 : ℕ
-  c0 = mask_l (map (λ b. eqb b 0xC0) (chunk 0 64 source))
+  c0 = mask_l (map (λ b. eqb b 0xC0) (chunk 0 width source))
 
   size : length bytes ≡ len
   size = length-take-le len source (omega (arith, long, few))
@@ -32,9 +32,9 @@ module _ (f : Flavor) (source : List ℕ) (len changed nulls : ℕ) (long : 64 �
       HasBits nulls (λ i. ltb i (length bytes) && is_null_at f bytes (0 + i)) × (nulls < 2 ^ 64)
   nulls_are true mutf8 some none = (
     subst (λ m. HasBits m (λ i. ltb i (length bytes) && is_null_at f bytes (0 + i))) (sym (some refl))
-        (nulls_of_changed f bytes changed changes (chunk 0 64 source) c0
-        (λ i inside. get_or-chunk 0 64 source i 0 (omega (arith, inside, size, few)) ∙ ap (λ k. get_or source k 0) (zero-add i) ∙ sym (alike i))
-        (class_bits (λ b. eqb b 0xC0) (chunk 0 64 source) refl refl)),
+        (nulls_of_changed f bytes changed changes (chunk 0 width source) c0
+        (λ i inside. get_or-chunk 0 width source i 0 (omega (arith, inside, size, few)) ∙ ap (λ k. get_or source k 0) (zero-add i) ∙ sym (alike i))
+        (class_bits (λ b. eqb b 0xC0) (chunk 0 width source) refl refl)),
     omega (arith, some refl, and_le_l changed c0, fits),
   )
   nulls_are false mutf8 some none = (
@@ -48,15 +48,14 @@ module _ (f : Flavor) (source : List ℕ) (len changed nulls : ℕ) (long : 64 �
   window_is are =
       window_of_alike f bytes source 0 _ alike
       (subst (λ n. IsWindow f bytes 0 (record { ill_formed = 0; pairs = bit_and changed (bit_not w64 nulls); nulls = nulls; len = n })) size
-      (changed_is_window f bytes changed changes nulls (omega (arith, size, few)) fits are.1 are.0))
+      (changed_is_window f bytes changed changes nulls (omega (arith, size, few, narrow)) fits are.1 are.0))
 
 pub returns-clause-window : goal.returns-clause-window
 returns-clause-window g c =
     let f = g.F.Flavor.flavor in
     let source = c.args.source.now in
     let changed = c.args.changed in
-    let long : 64 ≤ length source = omega (arith, c.requires.source) in
     let fits : changed < 2 ^ 64 = omega (arith, c.ranges.changed.fits) in
-    window_is f source c.args.len changed _ long c.requires.len c.requires.zeros c.requires.changed fits
-    (nulls_are f source c.args.len changed _ long c.requires.len c.requires.zeros c.requires.changed fits c.has_long_null.result
+    window_is f source g.row.WIDTH c.args.len changed _ c.requires.source.0 c.requires.source.1 c.requires.len c.requires.zeros c.requires.changed fits
+    (nulls_are f source g.row.WIDTH c.args.len changed _ c.requires.source.0 c.requires.source.1 c.requires.len c.requires.zeros c.requires.changed fits c.has_long_null.result
     c.has_long_null.ensures.1 (λ mutf8. grind arith steps 1000000) (λ other. grind arith steps 1000000))

@@ -6,7 +6,7 @@ use Rattle.cesu8_decode.proofs.decoder.WindowReturns.{padded_window, text_of_pad
 use Rattle.cesu8_decode.proofs.pass.short.write_lossily.Goals as goal
 
 pub write_ill_formed_events-requires-clause-window : goal.write_ill_formed_events-requires-clause-window
-write_ill_formed_events-requires-clause-window g c = record { is_window = search (arith, padded_window); boundary = search boundary_of_zeros; after = grind arith }
+write_ill_formed_events-requires-clause-window g c = record { is_window = search (arith, padded_window); boundary = search boundary_of_zeros; few = grind arith; after = grind arith }
 
 pub returns : goal.returns
 returns g c = search (arith, padded_window, text_of_padded_lossily)

@@ -1,0 +1,9 @@
+-- All of the stored bytes are those from the offset on, so the first `count` are the copied ones.
+use Rattle.std.proofs.Common.{arith}
+use Rattle.cesu8_decode.proofs.decoder.WindowReturns.{first_copied}
+use Rattle.cesu8_decode.proofs.pass.events.copy_between.Goals as goal
+
+pub returns : goal.returns
+returns g c =
+    first_copied g.row.WIDTH c.args.count c.args.at c.args.end _ c.args.bytes.now c.args.out.now _ c.put_lanes.ensures.writes c.requires.count
+    c.requires.bytes (omega (arith, c.requires.room))
