@@ -1,5 +1,5 @@
 -- The pass from window to window, for the loops of `pass::windows` and for one window alone.
-use Rattle.std.proofs.Common.{◌≡◌, ℕ, ◌+◌, ◌≤◌, Bool, true, false, true≢false, List, [], ◌++◌, refl, sym, ap, ◌∙◌, subst, arith, get_or, length, take, drop, append-nil, append_assoc, length-append, length-drop, take-append-drop, Result, Ok, Err, OkIff}
+use Rattle.std.proofs.Common.{◌≡◌, ℕ, ◌+◌, ◌≤◌, Bool, true, false, true≢false, List, [], ◌++◌, refl, sym, ap, ◌∙◌, subst, arith, length, take, drop, append-nil, append_assoc, length-append, length-drop, take-append-drop, Result, Ok, Err, OkIff}
 use Rattle.std.proofs.lemmas.List.{length-take-le}
 use Rattle.cesu8_text.specs.Encoding.{Flavor, encoding}
 use Rattle.cesu8_text.specs.Text.{IsText}
@@ -11,14 +11,12 @@ use Rattle.cesu8_decode.specs.Decoding.{IsDecoded, WritesDecoded, WritesReading,
 use Rattle.cesu8_decode.specs.DecodedOffsets.{window_of, decoded, is_boundary_at}
 use Rattle.cesu8_decode.specs.Following.{Unchanged}
 use Rattle.cesu8_decode.specs.Prefixes.{IsLongestPrefix}
-use Rattle.cesu8_decode.specs.Masks.{IsWindow}
-use Rattle.cesu8_decode.specs.declared.lanes.windows.Window.{Window}
 use Rattle.cesu8_decode.specs.declared.pass.windows.Pass.{Pass}
 use Rattle.cesu8_decode.proofs.by_offset.WindowOffsets.{Agree}
 use Rattle.cesu8_decode.proofs.by_offset.CharacterBoundaries.{boundary_of_zeros}
 use Rattle.cesu8_decode.proofs.chunks.DecodedCharacters.{text_fine, boundary_after_text, text_decoded, pair_fine, boundary_after_pair, pair_decoded}
 use Rattle.cesu8_decode.proofs.chunks.UnchangedPrefixes.{in_utf8}
-use Rattle.cesu8_decode.proofs.decoder.BlocksInPlace.{more_decoded, decoded_in, most_of_more, all_decoded, refused_decoded, windows_alike, writes_fine, writes_window}
+use Rattle.cesu8_decode.proofs.decoder.WrittenWindows.{more_decoded, decoded_in, most_of_more, all_decoded, refused_decoded, writes_fine}
 
 -- The state of a pass that has read some bytes and was not stopped.
 abbrev pub pass_at : (read end : ℕ) → Pass
@@ -122,19 +120,6 @@ writes_reading f which bytes old new n end true is inside all fits long (Err ref
 writes_reading f which bytes old new n end false is inside all fits long result ok =
     reads_text f which bytes old new end
     (record { text = all_decoded f which bytes [] _ n is (all refl); fits = omega (arith, fits, ap (most_written which) (all refl)); len = long }) result ok
-
--- What is written for the window of a source is the decoded text of all bytes that agree with it.
-pub text_of_window : (f : Flavor) (which : Strictness) (bytes source : List ℕ) (window : Window) (end : ℕ) (old new : List ℕ) →
-    ((k : ℕ) → get_or source k 0 ≡ get_or bytes k 0) → IsWindow f source 0 window → window.len ≡ length bytes → (which ≡ Strict → window.ill_formed ≡ 0) →
-    WritesAt (decoded f (window_of source) 0 window.len) 0 old new end → WritesText f which bytes end old new
-text_of_window f which bytes source window end old new alike is len whole written =
-    let writes = writes_window f which source 0 window 0 end old new is whole written in
-    record {
-      text = all_decoded f which bytes [] _ window.len
-          (decoded_in f which (window_of source) (window_of bytes) [] _ 0 0 window.len false (λ k small. windows_alike source bytes alike (0 + k)) writes.text) len;
-      fits = omega (arith, writes.end, ap (most_written which) len);
-      len = writes.len;
-    }
 
 -- ---- pairs and unchanged characters
 

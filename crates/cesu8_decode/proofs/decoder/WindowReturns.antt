@@ -1,38 +1,32 @@
 -- What functions return that write a window. Their proofs find these lemmas by search, so they name
 -- no variable or branch, and a rewritten body keeps its proof.
-use Rattle.std.proofs.Common.{◌≡◌, ℕ, ◌+◌, ◌≤◌, List, ◌++◌, take, drop, replicate, length, ap, sym, ◌∙◌, add_comm, arith, length-drop}
+use Rattle.std.proofs.Common.{false, ◌≡◌, ℕ, ◌+◌, ◌≤◌, List, [], ◌++◌, take, drop, replicate, length, ap, sym, ◌∙◌, arith, length-drop}
 use Rattle.std.proofs.lemmas.List.{length-take-le, take-take}
 use Rattle.cesu8_text.specs.Encoding.{Flavor}
 use Rattle.cesu8_bytes.specs.Puts.{WritesAt}
 use Rattle.cesu8_bytes.specs.declared.strictness.Strictness.{Strictness}
 use Rattle.cesu8_bytes.specs.declared.strictness.Strictness.TheVariants.{Lossy, Strict}
 use Rattle.cesu8_bytes.proofs.lists.Stored.{first_written}
-use Rattle.cesu8_decode.specs.Decoding.{WritesText}
+use Rattle.cesu8_decode.specs.Decoding.{WritesText, most_written}
 use Rattle.cesu8_decode.specs.DecodedOffsets.{decoded, window_of}
 use Rattle.cesu8_decode.specs.Masks.{IsWindow}
 use Rattle.cesu8_decode.specs.declared.lanes.windows.Window.{Window}
 use Rattle.cesu8_decode.proofs.decoder.PaddedWindows.{alike_with_zeros, window_of_alike}
-use Rattle.cesu8_decode.proofs.decoder.Passes.{text_of_window}
+use Rattle.cesu8_decode.proofs.decoder.WrittenWindows.{all_decoded, decoded_in, windows_alike, writes_window}
 
 -- Of the 64 bytes that are stored, the first `count` are those that are copied.
-pub first_stored : (end : ℕ) (old : List ℕ) (count at : ℕ) (bytes new : List ℕ) (m : ℕ) → WritesAt (take 64 (drop at bytes)) end old new m →
-    count ≤ 64 → at + 64 ≤ length bytes → end ≤ length old → take end old ++ take count (drop at bytes) ≡ take (end + count) new
-first_stored end old count at bytes new m writes few inside room =
+pub first_stored : (end n : ℕ) (old : List ℕ) (count at : ℕ) (bytes new : List ℕ) (m : ℕ) → n ≡ end + count → WritesAt (take 64 (drop at bytes)) end old new m →
+    count ≤ 64 → at + 64 ≤ length bytes → end ≤ length old → take end old ++ take count (drop at bytes) ≡ take n new
+first_stored end n old count at bytes new m is writes few inside room =
     let rest = drop at bytes in
     let long = length-take-le 64 rest (omega (arith, length-drop at bytes, inside)) in
     ap (λ bs. take end old ++ bs) (sym (take-take count 64 rest few))
-    ∙ sym (first_written count end m (take 64 rest) old new (omega (arith, long, few)) room writes).bytes
-
--- The same with the sum's operands exchanged.
-pub first_stored_from : (end : ℕ) (old : List ℕ) (count at : ℕ) (bytes new : List ℕ) (m : ℕ) → WritesAt (take 64 (drop at bytes)) end old new m →
-    count ≤ 64 → at + 64 ≤ length bytes → end ≤ length old → take end old ++ take count (drop at bytes) ≡ take (count + end) new
-first_stored_from end old count at bytes new m writes few inside room =
-    first_stored end old count at bytes new m writes few inside room ∙ ap (λ n. take n new) (add_comm end count)
+    ∙ sym (first_written count end m (take 64 rest) old new (omega (arith, long, few)) room writes).bytes ∙ ap (λ n. take n new) (sym is)
 
 pub length_first : (count at : ℕ) (bytes : List ℕ) → at + count ≤ length bytes → length (take count (drop at bytes)) ≡ count
 length_first count at bytes inside = length-take-le count (drop at bytes) (omega (arith, length-drop at bytes))
 
-pub ruleset copied_between = (first_stored, first_stored_from, length_first)
+pub ruleset copied_between = (first_stored, length_first)
 
 -- ---- at most 64 bytes, with zeros after them
 
@@ -45,7 +39,13 @@ module _ (f : Flavor) (bytes source : List ℕ) (window : Window) (m : ℕ) (pad
   pub text_of_padded : (which : Strictness) (end : ℕ) (old new : List ℕ) → IsWindow f source 0 window → window.len ≡ length bytes →
       (which ≡ Strict → window.ill_formed ≡ 0) → WritesAt (decoded f (window_of source) 0 window.len) 0 old new end → WritesText f which bytes end old new
   text_of_padded which end old new is len whole written =
-      text_of_window f which bytes source window end old new (alike_with_zeros bytes source m padded) is len whole written
+      let writes = writes_window f which source 0 window 0 end old new is whole written in
+      let alike = windows_alike source bytes (alike_with_zeros bytes source m padded) in
+      record {
+        text = all_decoded f which bytes [] _ window.len (decoded_in f which (window_of source) (window_of bytes) [] _ 0 0 window.len false (λ k small. alike (0 + k)) writes.text) len;
+        fits = omega (arith, writes.end, ap (most_written which) len);
+        len = writes.len;
+      }
 
   pub text_of_padded_lossily : (end : ℕ) (old new : List ℕ) → IsWindow f source 0 window → window.len ≡ length bytes →
       WritesAt (decoded f (window_of source) 0 window.len) 0 old new end → WritesText f Lossy bytes end old new

@@ -2,7 +2,7 @@
 -- is written. A window that a zero follows ends there, since no character has a zero after its first
 -- byte.
 use Rattle.std.proofs.Common.{arith}
-use Rattle.cesu8_decode.proofs.decoder.BlocksInPlace.{writes_window, writes_lossily, rejects_window, ends_at}
+use Rattle.cesu8_decode.proofs.decoder.WrittenWindows.{writes_window, writes_lossily, rejects_window, ends_at}
 use Rattle.cesu8_decode.proofs.pass.window.write_window.Goals as goal
 
 pub returns-then-window-eq0-clause-written : goal.returns-then-window-eq0-clause-written

@@ -2,7 +2,8 @@
 -- the 64th, none is left out, so one byte is stored for each. The function subtracts their number
 -- from the end.
 use Rattle.std.proofs.Common.{arith, refl}
-use Rattle.cesu8_decode.proofs.decoder.EventsPacked.{none_stored, stored_most, stored_after, stored_text, nulls_packed, block_stored}
+use Rattle.cesu8_decode.proofs.decoder.PackedLanes.{none_stored, stored_most, stored_after, stored_text}
+use Rattle.cesu8_decode.proofs.decoder.EventsPacked.{nulls_packed, block_stored}
 use Rattle.cesu8_decode.proofs.pass.events.dense_nulls.write_nulls.Goals as goal
 
 pub loop-written-init : goal.loop-written-init

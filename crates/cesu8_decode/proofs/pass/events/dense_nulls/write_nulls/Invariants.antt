@@ -1,6 +1,7 @@
 -- Before each round the first `written` bytes of the window, and of those after it, are packed.
 use Rattle.std.proofs.Common.{◌-◌}
-use Rattle.cesu8_decode.proofs.decoder.EventsPacked.{null_packed, AreStored}
+use Rattle.cesu8_decode.proofs.decoder.PackedLanes.{AreStored}
+use Rattle.cesu8_decode.proofs.decoder.EventsPacked.{null_packed}
 use Rattle.cesu8_decode.proofs.pass.events.dense_nulls.write_nulls.Given as goal
 
 abbrev pub invariant-loop-written : goal.invariant-loop-written

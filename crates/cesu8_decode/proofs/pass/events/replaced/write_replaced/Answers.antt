@@ -1,7 +1,8 @@
 -- For the bytes of the window each round writes their text. The bytes after the window, up to the
 -- 64th, are one byte each, which the function subtracts.
 use Rattle.std.proofs.Common.{arith, refl}
-use Rattle.cesu8_decode.proofs.decoder.EventsPacked.{none_stored, stored_most, stored_after, stored_text, replaced_packed, half_stored}
+use Rattle.cesu8_decode.proofs.decoder.PackedLanes.{none_stored, stored_most, stored_after, stored_text}
+use Rattle.cesu8_decode.proofs.decoder.EventsPacked.{replaced_packed, half_stored}
 use Rattle.cesu8_decode.proofs.pass.events.replaced.write_replaced.Goals as goal
 
 pub loop-written-init : goal.loop-written-init

@@ -1,7 +1,8 @@
 -- Before each round the first `written` of the 64 bytes from the start of the window on are packed.
 -- Some of these can be after its end.
 use Rattle.std.proofs.Common.{◌-◌}
-use Rattle.cesu8_decode.proofs.decoder.EventsPacked.{replaced, AreStored}
+use Rattle.cesu8_decode.proofs.decoder.PackedLanes.{AreStored}
+use Rattle.cesu8_decode.proofs.decoder.EventsPacked.{replaced}
 use Rattle.cesu8_decode.proofs.pass.events.replaced.write_replaced.Given as goal
 
 abbrev pub invariant-loop-written : goal.invariant-loop-written
