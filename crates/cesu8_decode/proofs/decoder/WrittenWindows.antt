@@ -138,13 +138,6 @@ pub writes_window : (f : Flavor) (which : Strictness) (bytes : List ℕ) (at : �
 writes_window f which bytes at window start end old new is whole written =
     writes_fine f which (window_of bytes) at window.len start end old new written (λ strict. none_in_window f bytes at window is (whole strict))
 
--- In lossy decoding any window is written.
-pub writes_lossily : (f : Flavor) (which : Strictness) (bytes : List ℕ) (at : ℕ) (window : Window) (start end : ℕ) (old new : List ℕ) →
-    IsWindow f bytes at window → which ≡ Lossy → WritesWindow f bytes at window start old new end →
-    WritesDecoded f which (window_of bytes) at window.len start old new end false
-writes_lossily f which bytes at window start end old new is lossy written =
-    writes_window f which bytes at window start end old new is (λ strict. absurd (let e = sym lossy ∙ strict in cc)) written
-
 -- If strict decoding rejects a window, nothing is written.
 pub rejects_window : (f : Flavor) (which : Strictness) (bytes : List ℕ) (at : ℕ) (window : Window) (start : ℕ) (old : List ℕ) →
     IsWindow f bytes at window → ¬ (window.ill_formed ≡ 0) → which ≡ Strict →
