@@ -8,9 +8,9 @@ use Rattle.cesu8_bytes.specs.Pairs.{null_at}
 use Rattle.cesu8_decode.specs.DecodedOffsets.{continues}
 use Rattle.cesu8_decode.specs.Following.{CharacterSet, has_changed, first_low, pair_class}
 
--- Byte b begins a character after byte a, which is no lead byte. A byte from C0 on that begins
--- none, such as FF, is taken to begin one: the class of the byte after it has an error bit.
-pub record Begins (f : Flavor) (a b : ℕ) : Type 0 where
+-- Byte b may begin a character after byte a, which is no lead byte: so may any byte from C0 on. If
+-- it begins none, as FF, the class of the byte after it has an error bit.
+pub record MayBegin (f : Flavor) (a b : ℕ) : Type 0 where
   pub no_lead : a < 0xC0
   pub no_continuation : continues b ≡ false
   pub no_null : is_null f b ≡ false
@@ -50,7 +50,7 @@ tests s f a b = grind (arith, nat_tests, by_tests)
 second : (s : CharacterSet) (f : Flavor) (a b : ℕ) → 0xC0 ≤ a → pair_class s f a b ≡ 0 → IsSecond s f a b
 second s f a b leads is = let found = (tests s f a b).1 is (le-leb 0xC0 a leads) (le-ltb a 0xC0 leads) in grind (arith, nat_tests)
 
-pub if_nothing : (s : CharacterSet) (f : Flavor) (a b : ℕ) → pair_class s f a b ≡ 0 → Begins f a b ⊎ IsSecond s f a b
+pub if_nothing : (s : CharacterSet) (f : Flavor) (a b : ℕ) → pair_class s f a b ≡ 0 → MayBegin f a b ⊎ IsSecond s f a b
 unfolding pair_class
 if_nothing s f a b is =
     ⊎_elim (λ (no_lead : a < 0xC0). inl (grind (arith, nat_tests))) (λ (leads : 0xC0 ≤ a). inr (second s f a b leads is)) (cases_lt a 0xC0)

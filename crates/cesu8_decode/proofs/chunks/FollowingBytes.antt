@@ -10,7 +10,7 @@ use Rattle.cesu8_bytes.specs.Pairs.{null_at}
 use Rattle.cesu8_decode.specs.Following.{CharacterSet, has_changed, first_low, is_high_surrogate, follows, follows_at, after_fillers, FirstFollow, crosses, crosses_at}
 use Rattle.cesu8_decode.specs.Prefixes.{AreWhole}
 use Rattle.cesu8_decode.proofs.by_offset.WidthTests.{continuation}
-use Rattle.cesu8_decode.proofs.chunks.ByteClasses.{Begins, IsSecond, if_nothing, if_third, if_low}
+use Rattle.cesu8_decode.proofs.chunks.ByteClasses.{MayBegin, IsSecond, if_nothing, if_third, if_low}
 use Rattle.cesu8_decode.proofs.chunks.WholeBytes.{none_whole, whole_with}
 
 -- A high surrogate begins with ED and a byte from A0 to AF.
@@ -162,7 +162,7 @@ are_whole : (s : CharacterSet) (f : Flavor) (n : ℕ) → AreWholeFrom s f n
 are_whole s f n a b d e [] few ends all = none_whole s f
 are_whole s f zero a b d e (g ∷ bytes) few ends all = absurd (omega arith)
 are_whole s f (suc n) a b d e (g ∷ bytes) few ends all =
-    ⊎_elim (λ (found : Begins f e g).
+    ⊎_elim (λ (found : MayBegin f e g).
     ⊎_elim (λ (low : g < 0x80).
     whole_with f (g ∷ bytes) 1 1 (found_one f (g ∷ bytes) (omega arith) low (short_of f g found.no_null)) s (inr refl)
     (are_whole s f n b d e g bytes (omega arith) (grind (arith, nat_tests)) all.1))

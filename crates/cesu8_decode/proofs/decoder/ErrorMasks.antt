@@ -19,7 +19,7 @@ use Rattle.cesu8_decode.specs.Following.{CharacterSet, Encoded, Unchanged, IsBlo
 use Rattle.cesu8_decode.specs.declared.lanes.character_set.Block.{Block}
 use Rattle.cesu8_bytes.proofs.lists.Lanes.{ones}
 use Rattle.cesu8_bytes.proofs.vectors.Loads.{loaded}
-use Rattle.cesu8_decode.proofs.decoder.FirstLanes.{no_lane, on_range}
+use Rattle.cesu8_decode.proofs.decoder.LanesByIndex.{no_lane, on_range}
 use Rattle.std.proofs.lemmas.Nat.{le_or_l, le_or_r, or_lt}
 
 -- ---- the error mask

@@ -18,7 +18,7 @@ use Rattle.cesu8_decode.specs.declared.lanes.windows.Window.{Window}
 use Rattle.cesu8_decode.proofs.by_offset.CharacterBoundaries.{width_bounds}
 use Rattle.cesu8_decode.proofs.by_offset.IllFormed.{not_reached}
 use Rattle.cesu8_decode.proofs.by_offset.WindowOffsets.{width_there, decoded_split}
-use Rattle.cesu8_decode.proofs.decoder.BlocksInPlace.{no_longer}
+use Rattle.cesu8_decode.proofs.decoder.WrittenWindows.{no_longer}
 use Rattle.cesu8_decode.proofs.decoder.EventBits.{IsLowest, AreLeft, all_events, event_set, first_begins, run_begins, none_there, none_before, after_event, unset}
 use Rattle.cesu8_decode.proofs.decoder.MaskBits.{marks_fit, run_ones, run_ends}
 use Rattle.cesu8_decode.proofs.decoder.WindowEnds.{none_changes, none_in_window, pair_set, null_set, ill_set, pair_unset, null_unset, ill_unset, ends_within, none_inside}

@@ -129,12 +129,6 @@ module _ (f : Flavor) (bytes : List ℕ) where
     pub no_lone_lead : (i : ℕ) → at ≤ i → i < at + n → is_null_at f bytes i ≡ false → is_ill_formed_at f (window_of bytes) i ≡ false → get_or bytes i 0 ≡ 0xC0 → ⊥
     no_lone_lead i low inside null fine lead = grind (arith, nat_tests, byte_there, byte_after, lead_first, lead_second, no_pair_at, lead_third, no_cover)
 
-  -- After a boundary, each of n bytes at which no event is becomes itself.
-  kept_at : (at n : ℕ) → is_boundary_at f (window_of bytes) at ≡ true → ((i : ℕ) → at ≤ i → i < at + n → NoEventAt f bytes i) →
-      (i : ℕ) → at ≤ i → i < at + n → decoded_at f (window_of bytes) i ≡ get_or bytes i 0 ∷ []
-  kept_at at n boundary stay i low inside =
-      plain_at at n boundary (λ i low inside. (stay i low inside).pair) i low inside (stay i low inside).null (λ j low there. (stay j low (omega arith)).null) (stay i low inside).fine
-
   -- If each of n bytes becomes itself, these bytes are what decoding writes for them.
   kept_range : (at n : ℕ) → at + n ≤ length bytes → ((i : ℕ) → at ≤ i → i < at + n → decoded_at f (window_of bytes) i ≡ get_or bytes i 0 ∷ []) →
       take n (drop at bytes) ≡ decoded f (window_of bytes) at n
@@ -145,7 +139,8 @@ module _ (f : Flavor) (bytes : List ℕ) where
   -- After a boundary, bytes in which no event begins are unchanged.
   pub kept_decoded : (at n : ℕ) → at + n ≤ length bytes → is_boundary_at f (window_of bytes) at ≡ true → ((i : ℕ) → at ≤ i → i < at + n → NoEventAt f bytes i) →
       take n (drop at bytes) ≡ decoded f (window_of bytes) at n
-  kept_decoded at n fits boundary stay = kept_range at n fits (kept_at at n boundary stay)
+  kept_decoded at n fits boundary stay = kept_range at n fits (λ i low inside.
+      plain_at at n boundary (λ i low inside. (stay i low inside).pair) i low inside (stay i low inside).null (λ j low there. (stay j low (omega arith)).null) (stay i low inside).fine)
 
   -- ---- boundaries
 

@@ -1,20 +1,14 @@
 -- What shuffles pack for a window, byte by byte, for `write_nulls` and `write_replaced`.
-use Rattle.std.proofs.Common.{◌≡◌, ◌≢◌, ℕ, zero, suc, ◌+◌, ◌-◌, ◌*◌, ◌/◌, ◌%◌, ◌^◌, ◌<◌, ◌≤◌, ⊎_elim, Bool, false, true≢false, cond, eqb, List, [], ◌∷◌, ◌++◌, refl, sym, ap, ◌∙◌, subst, arith, length, take, get_or, append-nil, map, replicate, length-append, append_assoc, add-zero, zero-add, suc-add}
+use Rattle.std.proofs.Common.{◌≡◌, ◌≢◌, ℕ, zero, suc, ◌+◌, ◌-◌, ◌*◌, ◌/◌, ◌%◌, ◌^◌, ◌<◌, ◌≤◌, ⊎_elim, Bool, false, true≢false, cond, eqb, List, [], ◌∷◌, ◌++◌, refl, sym, ap, ◌∙◌, subst, arith, length, take, get_or, map, replicate, add-zero, zero-add}
 use Rattle.std.specs.Int.{bit_at}
 use Rattle.std.specs.List.{flat_map, range_with_len}
 use Rattle.std.specs.Simd.Lanes.{mask_l}
-use Rattle.std.proofs.lemmas.Bool.{cases_lt, ne_eqb, cases_eq}
+use Rattle.std.proofs.lemmas.Bool.{ne_eqb, cases_eq}
 use Rattle.std.proofs.lemmas.Bool.Decides.{nat_tests}
-use Rattle.std.proofs.lemmas.List.{get_or_past}
-use Rattle.std.proofs.lemmas.List.FromFn.{get_or-map-range_with_len, length-map-range_with_len, take-map-range_with_len}
-use Rattle.std.proofs.lemmas.Nat.Bits.{bit_at-lt, bit_at_above, same_from_bits, bit_at-zero}
-use Rattle.std.proofs.lemmas.Simd.{bit_mask_l, map-map}
-use lib.Lanes.{sel_l, chunk}
-use Rattle.std.proofs.Math.Seq.{take-append_seam}
+use Rattle.std.proofs.lemmas.Nat.Bits.{bit_at_above, bit_at-zero}
+use Rattle.std.proofs.lemmas.Simd.{map-map}
+use lib.Lanes.{chunk}
 use Rattle.cesu8_bytes.specs.Puts.{WritesAt}
-use Rattle.cesu8_bytes.proofs.lists.Stored.{first_written, written_after}
-use Rattle.cesu8_bytes.proofs.vectors.Loads.{loaded}
-use Rattle.std.proofs.Math.Nat.{div-le_self}
 use Rattle.cesu8_text.specs.Encoding.{Flavor}
 use Rattle.cesu8_decode.specs.DecodedOffsets.{window_of, is_ill_formed_at, decoded_at, decoded}
 use Rattle.cesu8_decode.specs.Masks.{HoldWindow, IsWindow, is_null_at, is_pair_at}
@@ -22,166 +16,12 @@ use Rattle.cesu8_decode.specs.declared.lanes.windows.Window.{Window}
 use Rattle.cesu8_decode.proofs.by_offset.WindowOffsets.{decoded_split}
 use Rattle.cesu8_decode.proofs.chunks.Changed.{null_lead}
 use Rattle.cesu8_decode.proofs.decoder.EventBits.{unset, shifted_first, shifted_next}
-use Rattle.cesu8_decode.proofs.decoder.MaskBits.{rest_bit, marks_fit}
+use Rattle.cesu8_decode.proofs.decoder.MaskBits.{marks_fit}
 use Rattle.cesu8_decode.proofs.decoder.WindowEnds.{none_changes, null_set, ill_set, pair_unset, null_unset, ill_unset, none_in_window, ends_within, none_inside}
-use Rattle.cesu8_decode.proofs.decoder.BlocksInPlace.{one_or_none, at_most_three}
+use Rattle.cesu8_decode.proofs.decoder.WrittenWindows.{one_or_none, at_most_three}
 use Rattle.cesu8_decode.proofs.decoder.EventsDecoded.{plain_at, no_lone_lead, null_wide, null_at_decoded, replaced_at}
 use Rattle.cesu8_bytes.specs.Packing.{written_for, written}
-
--- ---- ranges
-
--- What m + n offsets give is what the first m give, and then the other n.
-range_split : (h : ℕ → List ℕ) (i m n : ℕ) → flat_map h (range_with_len i (m + n)) ≡ flat_map h (range_with_len i m) ++ flat_map h (range_with_len (i + m) n)
-range_split h i zero n = rw (add-zero i, zero-add n) refl
-range_split h i (suc m) n =
-    let offset : i + 1 + m ≡ i + suc m = omega arith in
-    rw (suc-add m n, range_split h (i + 1) m n, offset) (sym (append_assoc (h i) _ _))
-
--- Two ranges give the same if their offsets do.
-range_same : (g h : ℕ → List ℕ) (a b n : ℕ) → ((k : ℕ) → k < n → g (a + k) ≡ h (b + k)) → flat_map g (range_with_len a n) ≡ flat_map h (range_with_len b n)
-range_same g h a b zero same = refl
-range_same g h a b (suc n) same =
-    let first = ap g (sym (add-zero a)) ∙ same 0 (omega arith) ∙ ap h (add-zero b) in
-    let rest = range_same g h (a + 1) (b + 1) n (λ k small.
-    let here : a + 1 + k ≡ a + (k + 1) = omega arith in
-    let there : b + (k + 1) ≡ b + 1 + k = omega arith in
-    ap g here ∙ same (k + 1) (omega arith) ∙ ap h there) in
-    λ k. first k ++ rest k
-
--- If each offset gives one byte, n offsets give n bytes.
-range_length : (h : ℕ → List ℕ) (a n : ℕ) → ((i : ℕ) → a ≤ i → i < a + n → length (h i) ≡ 1) → length (flat_map h (range_with_len a n)) ≡ n
-range_length h a zero one = refl
-range_length h a (suc n) one = grind (arith, nat_tests, length-append, range_length h (a + 1) n (λ i low inside. one i (omega arith) (omega arith)))
-
--- If no offset gives more than `most` bytes, n offsets give at most n times as many.
-range_most : (h : ℕ → List ℕ) (most a n : ℕ) → ((i : ℕ) → length (h i) ≤ most) → length (flat_map h (range_with_len a n)) ≤ most * n
-range_most h most a zero each = omega arith
-range_most h most a (suc n) each = omega (arith, length-append (h a) (flat_map h (range_with_len (a + 1) n)), each a, range_most h most (a + 1) n each)
-
--- What is written for lanes, by their offsets.
-written_on_range : (g d : ℕ → Bool) (b : ℕ → ℕ) (a n : ℕ) →
-    written (map g (range_with_len a n)) (map d (range_with_len a n)) (map b (range_with_len a n)) ≡ flat_map (λ i. written_for (g i) (d i) (b i)) (range_with_len a n)
-written_on_range g d b a zero = refl
-written_on_range g d b a (suc n) = (λ k. written_for (g a) (d a) (b a) ++ written_on_range g d b (a + 1) n k)
-
--- ---- bits
-
-one_bit : (b : ℕ) → b < 2 → cond (eqb b 1) 1 0 ≡ b
-one_bit b small = grind (arith, nat_tests)
-
--- A word is the mask of its bits.
-pub bits_are : (word n : ℕ) → word < 2 ^ n → word ≡ mask_l (map (λ i. eqb (bit_at word i) 1) (range_with_len 0 n))
-bits_are word n fits =
-    let t : ℕ → Bool = λ i. eqb (bit_at word i) 1 in
-    let ms = map t (range_with_len 0 n) in
-    same_from_bits word (mask_l ms) (λ i.
-    ⊎_elim (λ (inside : i < n).
-    sym (one_bit (bit_at word i) (bit_at-lt word i))
-    ∙ ap {B = ℕ} (λ t. cond t 1 0) (sym (get_or-map-range_with_len t 0 n i i false inside (zero-add i)))
-    ∙ sym (bit_mask_l ms i))
-    (λ (past : n ≤ i).
-    bit_at_above word n i fits past
-    ∙ ap {B = ℕ} (λ t. cond t 1 0) (sym (get_or_past ms i false (omega (arith, length-map-range_with_len t 0 n))))
-    ∙ sym (bit_mask_l ms i))
-    (cases_lt i n))
-
--- A select writes zeros to the lanes that pass a test.
-pub zeroed_of : (p : ℕ → Bool) (size : ℕ) (xs : List ℕ) → length xs ≡ size → sel_l (map p xs) (replicate size 0) xs ≡ map (λ x. cond (p x) 0 x) xs
-zeroed_of p size [] long = refl
-zeroed_of p zero (x ∷ xs) long = absurd (omega arith)
-zeroed_of p (suc size) (x ∷ xs) long = ap (λ l. cond (p x) 0 x ∷ l) (zeroed_of p size xs (omega arith))
-
--- ---- the next lanes
-
--- Lanes are packed by the bits of a word, each by `pack`.
-module _ (pack : Bool → ℕ → List ℕ) (word : ℕ) (fits : word < 2 ^ 64) (bytes : List ℕ) (at size : ℕ) (few : size ≤ 64) (all : List Bool → List ℕ → List ℕ)
-    (each : (t : ℕ → Bool) (z : ℕ → ℕ) → all (map t (range_with_len 0 size)) (map z (range_with_len 0 size)) ≡ flat_map (λ i. pack (t i) (z i)) (range_with_len 0 size)) where
-  abbrev packs : ℕ → List ℕ
-  packs i = pack (eqb (bit_at word i) 1) (get_or bytes (at + i) 0)
-
-  -- The lanes from an offset on are stored after those before them.
-  next_written : (k end middle last : ℕ) (old mid new : List ℕ) → at + k + size ≤ length bytes → WritesAt (flat_map packs (range_with_len 0 k)) end old mid middle →
-      ((tests : List Bool) → size ≤ length tests → word / 2 ^ k ≡ mask_l tests → WritesAt (all (take size tests) (chunk (at + k) size bytes)) middle mid new last) →
-      WritesAt (flat_map packs (range_with_len 0 (k + size))) end old new last
-  next_written k end middle last old mid new room before stored =
-      let rest = word / 2 ^ k in
-      let t : ℕ → Bool = λ i. eqb (bit_at rest i) 1 in
-      let z : ℕ → ℕ = λ i. get_or bytes (i + (at + k)) 0 in
-      let below : rest < 2 ^ 64 = omega (arith, div-le_self word (2 ^ k)) in
-      let store = stored (map t (range_with_len 0 64)) (omega (arith, few, length-map-range_with_len t 0 64)) (bits_are rest 64 below) in
-      let tests = take-map-range_with_len t 0 64 size few in
-      let lanes : chunk (at + k) size bytes ≡ map z (range_with_len 0 size) =
-      ap (λ p. chunk p size bytes) (sym (zero-add (at + k))) ∙ loaded bytes 0 (at + k) size (omega (arith, room)) in
-      let are : all (take size (map t (range_with_len 0 64))) (chunk (at + k) size bytes) ≡ flat_map packs (range_with_len k size) =
-      (λ j. all (tests j) (lanes j)) ∙ each t z
-      ∙ range_same (λ i. pack (t i) (z i)) packs 0 k size (λ j inside.
-      let here : 0 + j ≡ j = zero-add j in
-      let offset : 0 + j + (at + k) ≡ at + (k + j) = omega arith in
-      let bit = ap (bit_at rest) here ∙ rest_bit word k fits j in
-      (λ q. pack (eqb (bit q) 1) (get_or bytes (offset q) 0))) in
-      let here : 0 + k ≡ k = zero-add k in
-      subst (λ bs. WritesAt bs end old new last)
-      (ap (λ n. flat_map packs (range_with_len 0 k) ++ flat_map packs (range_with_len n size)) (sym here) ∙ sym (range_split packs 0 k size))
-      (written_after (flat_map packs (range_with_len 0 k)) (flat_map packs (range_with_len k size)) old mid new end middle last before
-      (subst (λ bs. WritesAt bs middle mid new last) are store))
-
--- ---- windows that are packed
-
--- A loop stores `packed i` for each offset i of 64. For those of the window this is what decoding
--- writes, and for each offset after it one byte.
-pub record Packs (f : Flavor) (bytes : List ℕ) (at : ℕ) (window : Window) (packed : ℕ → List ℕ) (bound : ℕ) : Type 0 where
-  pub text : flat_map packed (range_with_len 0 window.len) ≡ decoded f (window_of bytes) at window.len
-  pub after : (i : ℕ) → window.len ≤ i → i < 64 → length (packed i) ≡ 1
-  pub most : (i : ℕ) → length (packed i) ≤ bound
-
--- The first n offsets are stored, so many at a time that `size` divides n.
-pub record AreStored (packed : ℕ → List ℕ) (size n start : ℕ) (old new : List ℕ) (end : ℕ) : Type 0 where
-  pub whole : n % size ≡ 0
-  pub within : n ≤ 64
-  pub text : WritesAt (flat_map packed (range_with_len 0 n)) start old new end
-
-pub none_stored : (packed : ℕ → List ℕ) (size start : ℕ) (old : List ℕ) → 0 % size ≡ 0 → AreStored packed size 0 start old old start
-none_stored packed size start old whole = record {
-  whole = whole;
-  within = omega arith;
-  text = record { bytes = sym (append-nil (take start old)); end = omega arith; len = refl };
-}
-
-module _ {f : Flavor} {bytes : List ℕ} {at : ℕ} {window : Window} {packed : ℕ → List ℕ} {bound : ℕ} (packs : Packs f bytes at window packed bound) where
-  pub stored_most : (n : ℕ) → length (flat_map packed (range_with_len 0 n)) ≤ bound * n
-  stored_most n = range_most packed bound 0 n packs.most
-
-  module _ {size n start end : ℕ} {old new : List ℕ} (stored : AreStored packed size n start old new end) (covered : window.len ≤ n) where
-    first : List ℕ
-    first = flat_map packed (range_with_len 0 window.len)
-
-    others : List ℕ
-    others = flat_map packed (range_with_len (0 + window.len) (n - window.len))
-
-    split : flat_map packed (range_with_len 0 n) ≡ first ++ others
-    unfolding first others
-    split =
-        let all : window.len + (n - window.len) ≡ n = omega arith in
-        ap (λ k. flat_map packed (range_with_len 0 k)) (sym all) ∙ range_split packed 0 window.len (n - window.len)
-
-    lengths : start + length first + (n - window.len) ≡ end
-    unfolding others
-    lengths =
-        let few = range_length packed (0 + window.len) (n - window.len) (λ i low inside. packs.after i (omega arith) (omega (arith, stored.within))) in
-        omega (arith, stored.text.end, ap length split, length-append first others, few)
-
-    -- At least as many bytes are stored as there are offsets after the window.
-    pub stored_after : n - window.len ≤ end
-    stored_after = omega (arith, lengths)
-
-    -- What is stored, without the bytes after the window, is what decoding writes for the window.
-    pub stored_text : start ≤ length old → WritesAt (decoded f (window_of bytes) at window.len) start old new (end - (n - window.len))
-    unfolding first
-    stored_text room =
-        let cut = first_written (length first) start end (first ++ others) old new (omega (arith, length-append first others)) room (subst (λ bs. WritesAt bs start old new end) split stored.text) in
-        let is_end : start + length first ≡ end - (n - window.len) = omega (arith, lengths) in
-        subst (λ bs. WritesAt bs start old new (end - (n - window.len))) (take-append_seam first others ∙ packs.text)
-        (subst (λ k. WritesAt (take (length first) (first ++ others)) start old new k) is_end cut)
+use Rattle.cesu8_decode.proofs.decoder.PackedLanes.{range_split, range_same, written_on_range, Packs, AreStored, next_stored}
 
 -- ---- C0 80
 
@@ -202,9 +42,6 @@ module _ {f : Flavor} {bytes : List ℕ} {at : ℕ} {window : Window} (holds : H
 
   abbrev packed : ℕ → List ℕ
   packed = null_packed bytes at window.nulls
-
-  fine_at : (i : ℕ) → at ≤ i → i < at + window.len → is_ill_formed_at f (window_of bytes) i ≡ false
-  fine_at = none_in_window f bytes at window is none
 
   pair_none : (i : ℕ) → at ≤ i → i < at + window.len → is_pair_at f bytes i ≡ false
   pair_none i low inside = pair_unset is i low inside (ap (λ m. bit_at m (i - at)) no_pairs ∙ bit_at-zero (i - at))
@@ -259,7 +96,7 @@ module _ {f : Flavor} {bytes : List ℕ} {at : ℕ} {window : Window} (holds : H
       (λ (other : ¬ (bit_at window.nulls i ≡ 1)).
       let none_here : bit_at window.nulls i ≡ 0 = unset window.nulls i other in
       let null = null_none i (omega arith) none_here in
-      let fine = fine_at (at + i) (omega arith) (omega arith) in
+      let fine = none_in_window f bytes at window is none (at + i) (omega arith) (omega arith) in
       let lone = no_lone_lead f bytes at window.len holds.boundary pair_none (at + i) (omega arith) (omega arith) null fine in
       let plain = plain_at f bytes at window.len holds.boundary pair_none (at + i) (omega arith) (omega arith) null
       (λ j low there. let here : j ≡ at + (j - at) = omega arith in
@@ -300,20 +137,16 @@ module _ {f : Flavor} {bytes : List ℕ} {at : ℕ} {window : Window} (holds : H
   }
 
   -- The next block is stored after the blocks before it.
-  pub block_stored : (n start end last : ℕ) (block old mid new : List ℕ) → n + 32 ≤ 64 → block ≡ map (λ b. cond (eqb b 0xC0) 0 b) (chunk (at + n) 32 bytes) →
-      AreStored packed 32 n start old mid end →
-      ((tests : List Bool) → 32 ≤ length tests → left_out / 2 ^ n ≡ mask_l tests → WritesAt (written (take 32 tests) (replicate 32 false) block) end mid new last) →
-      AreStored packed 32 (n + 32) start old new last
-  block_stored n start end last block old mid new within block_is before stored =
+  pub block_stored : (n start middle last : ℕ) (block old mid new : List ℕ) → n + 32 ≤ 64 → block ≡ map (λ b. cond (eqb b 0xC0) 0 b) (chunk (at + n) 32 bytes) →
+      AreStored f bytes at window packed 1 32 n start old mid middle →
+      ((tests : List Bool) → 32 ≤ length tests → left_out / 2 ^ n ≡ mask_l tests → WritesAt (written (take 32 tests) (replicate 32 false) block) middle mid new last) →
+      AreStored f bytes at window packed 1 32 (n + 32) start old new last
+  block_stored n start middle last block old mid new within block_is before stored =
       let zeroed : ℕ → ℕ = λ b. cond (eqb b 0xC0) 0 b in
-      record {
-        whole = omega (arith, before.whole);
-        within = within;
-        text = next_written (λ t b. written_for t false (zeroed b)) left_out (omega arith) bytes at 32 (omega arith) (λ tests bs. written tests (replicate 32 false) (map zeroed bs))
-            (λ t z. ap (written (map t (range_with_len 0 32)) (replicate 32 false)) (map-map zeroed z (range_with_len 0 32)) ∙ written_on_range t (λ _. false) (λ i. zeroed (z i)) 0 32)
-            n start end last old mid new (omega (arith, holds.after)) before.text
-            (λ tests many is. subst (λ bs. WritesAt (written (take 32 tests) (replicate 32 false) bs) end mid new last) block_is (stored tests many is));
-      }
+      next_stored f bytes at window (λ t b. written_for t false (zeroed b)) left_out (omega arith) 1 32 (λ tests bs. written tests (replicate 32 false) (map zeroed bs))
+      (λ t z. ap (written (map t (range_with_len 0 32)) (replicate 32 false)) (map-map zeroed z (range_with_len 0 32)) ∙ written_on_range t (λ _. false) (λ i. zeroed (z i)) 0 32)
+      n start middle last old mid new within (omega (arith, holds.after)) before
+      (λ tests many is. subst (λ bs. WritesAt (written (take 32 tests) (replicate 32 false) bs) middle mid new last) block_is (stored tests many is))
 
 -- ---- replacement characters
 
@@ -359,16 +192,11 @@ module _ {f : Flavor} {bytes : List ℕ} {at : ℕ} {window : Window} (holds : H
   }
 
   -- The next sixteen bytes are stored after those before them.
-  pub half_stored : (n start end last : ℕ) (half old mid new : List ℕ) → n + 16 ≤ 64 → half ≡ chunk (at + n) 16 bytes →
-      AreStored stored 16 n start old mid end →
-      ((tests : List Bool) → 16 ≤ length tests → window.ill_formed / 2 ^ n ≡ mask_l tests → WritesAt (written (replicate 16 false) (take 16 tests) half) end mid new last) →
-      AreStored stored 16 (n + 16) start old new last
-  half_stored n start end last half old mid new within half_is before put =
-      let fits = marks_fit (is_ill_formed_at f (window_of bytes)) at holds.is_window.n holds.is_window.few holds.is_window.ill_formed in
-      record {
-        whole = omega (arith, before.whole);
-        within = within;
-        text = next_written (λ t b. written_for false t b) window.ill_formed fits bytes at 16 (omega arith) (λ tests bs. written (replicate 16 false) tests bs)
-            (λ t z. written_on_range (λ _. false) t z 0 16) n start end last old mid new (omega (arith, holds.after)) before.text
-            (λ tests many is. subst (λ bs. WritesAt (written (replicate 16 false) (take 16 tests) bs) end mid new last) half_is (put tests many is));
-      }
+  pub half_stored : (n start middle last : ℕ) (half old mid new : List ℕ) → n + 16 ≤ 64 → half ≡ chunk (at + n) 16 bytes →
+      AreStored f bytes at window stored 3 16 n start old mid middle →
+      ((tests : List Bool) → 16 ≤ length tests → window.ill_formed / 2 ^ n ≡ mask_l tests → WritesAt (written (replicate 16 false) (take 16 tests) half) middle mid new last) →
+      AreStored f bytes at window stored 3 16 (n + 16) start old new last
+  half_stored n start middle last half old mid new within half_is before put =
+      next_stored f bytes at window (λ t b. written_for false t b) window.ill_formed (marks_fit (is_ill_formed_at f (window_of bytes)) at holds.is_window.n holds.is_window.few holds.is_window.ill_formed)
+      3 16 (λ tests bs. written (replicate 16 false) tests bs) (λ t z. written_on_range (λ _. false) t z 0 16) n start middle last old mid new within (omega (arith, holds.after)) before
+      (λ tests many is. subst (λ bs. WritesAt (written (replicate 16 false) (take 16 tests) bs) middle mid new last) half_is (put tests many is))

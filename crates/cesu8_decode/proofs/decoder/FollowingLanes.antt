@@ -7,7 +7,7 @@ use Rattle.cesu8_text.specs.Encoding.{Flavor, Cesu8, Mutf8}
 use Rattle.cesu8_bytes.specs.Kernels.{mask}
 use Rattle.cesu8_decode.specs.Following.{table_bits}
 use Rattle.cesu8_decode.proofs.decoder.TableLookups.{half, half_tests, bits_by_halves, and_false}
-use Rattle.cesu8_decode.proofs.decoder.FirstLanes.{on_range, lanes_are, lane_fits}
+use Rattle.cesu8_decode.proofs.decoder.LanesByIndex.{on_range, lanes_are, lane_fits}
 use Rattle.cesu8_decode.specs.Following.{CharacterSet, Encoded, Unchanged, has_changed, first_low, rule, pair_class, later}
 use Rattle.cesu8_decode.specs.declared.lanes.character_set.Rule.{Rule}
 use Rattle.cesu8_decode.specs.declared.lanes.character_set.TheConstants.{ENCODED, UNCHANGED}

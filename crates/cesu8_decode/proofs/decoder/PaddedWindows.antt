@@ -13,7 +13,7 @@ use Rattle.cesu8_decode.specs.Prefixes.{AreChanges, is_changed_at}
 use Rattle.cesu8_decode.specs.Masks.{HasBits, IsWindow, is_pair_at, is_null_at}
 use Rattle.cesu8_decode.specs.declared.lanes.windows.Window.{Window}
 use Rattle.cesu8_decode.proofs.by_offset.WindowOffsets.{width_agrees, ill_formed_agrees, boundary_agrees}
-use Rattle.cesu8_decode.proofs.decoder.BlocksInPlace.{windows_alike}
+use Rattle.cesu8_decode.proofs.decoder.WrittenWindows.{windows_alike}
 use Rattle.cesu8_decode.proofs.decoder.FormMasks.{map_alike}
 use Rattle.cesu8_decode.proofs.decoder.MaskBits.{and_bits, without_bits, no_bits, by_equal_test, dropped, marks_from, bits_from, no_marks}
 use Rattle.cesu8_decode.proofs.decoder.MaskTests.{pair_alone, pair_width, no_null_of}

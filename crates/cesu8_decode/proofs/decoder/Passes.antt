@@ -1,24 +1,22 @@
 -- The pass from window to window, for the loops of `pass::windows` and for one window alone.
-use Rattle.std.proofs.Common.{◌≡◌, ℕ, ◌+◌, ◌≤◌, Bool, true, false, true≢false, List, [], ◌++◌, refl, sym, ap, ◌∙◌, subst, arith, get_or, length, take, drop, append-nil, append_assoc, length-append, length-drop, take-append-drop, Result, Ok, Err, OkIff}
+use Rattle.std.proofs.Common.{◌≡◌, ℕ, ◌+◌, ◌≤◌, Bool, true, false, true≢false, List, [], ◌++◌, refl, sym, ap, ◌∙◌, subst, arith, length, take, drop, append-nil, append_assoc, length-append, length-drop, take-append-drop, Result, Ok, Err, OkIff}
 use Rattle.std.proofs.lemmas.List.{length-take-le}
 use Rattle.cesu8_text.specs.Encoding.{Flavor, encoding}
 use Rattle.cesu8_text.specs.Text.{IsText}
 use Rattle.cesu8_bytes.specs.Pairs.{IsUtf8OfDigits, second_third_fifth_sixth, HasPair}
 use Rattle.cesu8_bytes.specs.Puts.{PutsAt, WritesAt}
 use Rattle.cesu8_bytes.specs.declared.strictness.Strictness.{Strictness}
-use Rattle.cesu8_bytes.specs.declared.strictness.Strictness.TheVariants.{Strict, Lossy}
+use Rattle.cesu8_bytes.specs.declared.strictness.Strictness.TheVariants.{Strict}
 use Rattle.cesu8_decode.specs.Decoding.{IsDecoded, WritesDecoded, WritesReading, WritesText, IsPass, GoesOn, most_written}
 use Rattle.cesu8_decode.specs.DecodedOffsets.{window_of, decoded, is_boundary_at}
 use Rattle.cesu8_decode.specs.Following.{Unchanged}
 use Rattle.cesu8_decode.specs.Prefixes.{IsLongestPrefix}
-use Rattle.cesu8_decode.specs.Masks.{IsWindow}
-use Rattle.cesu8_decode.specs.declared.lanes.windows.Window.{Window}
 use Rattle.cesu8_decode.specs.declared.pass.windows.Pass.{Pass}
 use Rattle.cesu8_decode.proofs.by_offset.WindowOffsets.{Agree}
 use Rattle.cesu8_decode.proofs.by_offset.CharacterBoundaries.{boundary_of_zeros}
 use Rattle.cesu8_decode.proofs.chunks.DecodedCharacters.{text_fine, boundary_after_text, text_decoded, pair_fine, boundary_after_pair, pair_decoded}
 use Rattle.cesu8_decode.proofs.chunks.UnchangedPrefixes.{in_utf8}
-use Rattle.cesu8_decode.proofs.decoder.BlocksInPlace.{more_decoded, decoded_in, most_of_more, all_decoded, refused_decoded, windows_alike, writes_window}
+use Rattle.cesu8_decode.proofs.decoder.WrittenWindows.{more_decoded, decoded_in, most_of_more, all_decoded, refused_decoded, writes_fine}
 
 -- The state of a pass that has read some bytes and was not stopped.
 abbrev pub pass_at : (read end : ℕ) → Pass
@@ -83,14 +81,20 @@ module _ (f : Flavor) (which : Strictness) (bytes : List ℕ) where
     len = writes.len;
   }
 
+  -- The pass continues by what is written for the next n bytes.
+  goes_on_here : (pass : Pass) (n end : ℕ) (is_rejected : Bool) (old new : List ℕ) → pass.read + n ≤ length bytes → is_boundary_at f (window_of bytes) (pass.read + n) ≡ true →
+      WritesDecoded f which (window_of bytes) pass.read n pass.end old new end is_rejected → end ≤ length new →
+      GoesOn f which bytes pass (record { read = pass.read + n; end = end; is_rejected = is_rejected }) old new
+  goes_on_here pass n end is_rejected old new inside boundary writes room =
+      goes_on_by pass _ (window_of bytes) old new pass.read n refl inside (λ _. record { within = inside; boundary = boundary }) (λ k small. refl) writes room
+
   -- A pass goes on by a window of the bytes themselves.
   pub window_goes_on : (before pass : Pass) (old mid new : List ℕ) (n end : ℕ) (is_rejected : Bool) → GoesOn f which bytes before pass old mid →
       pass.is_rejected ≡ false → pass.read + n ≤ length bytes → is_boundary_at f (window_of bytes) (pass.read + n) ≡ true →
       WritesDecoded f which (window_of bytes) pass.read n pass.end mid new end is_rejected → end ≤ length new →
       GoesOn f which bytes before (record { read = pass.read + n; end = end; is_rejected = is_rejected }) old new
   window_goes_on before pass old mid new n end is_rejected so_far fine inside boundary writes room =
-      goes_further before pass _ old mid new so_far fine
-      (goes_on_by pass _ (window_of bytes) mid new pass.read n refl inside (λ _. record { within = inside; boundary = boundary }) (λ k small. refl) writes room)
+      goes_further before pass _ old mid new so_far fine (goes_on_here pass n end is_rejected mid new inside boundary writes room)
 
   -- A pass that starts with an empty buffer writes the text of the bytes that it reads.
   pub reads_on : (before after : Pass) (old new start text : List ℕ) (is_rejected : Bool) → GoesOn f which bytes before after old new → before.end ≡ 0 →
@@ -117,75 +121,27 @@ writes_reading f which bytes old new n end false is inside all fits long result 
     reads_text f which bytes old new end
     (record { text = all_decoded f which bytes [] _ n is (all refl); fits = omega (arith, fits, ap (most_written which) (all refl)); len = long }) result ok
 
--- What is written for the window of a source is the decoded text of all bytes that agree with it.
-pub text_of_window : (f : Flavor) (which : Strictness) (bytes source : List ℕ) (window : Window) (end : ℕ) (old new : List ℕ) →
-    ((k : ℕ) → get_or source k 0 ≡ get_or bytes k 0) → IsWindow f source 0 window → window.len ≡ length bytes → (which ≡ Strict → window.ill_formed ≡ 0) →
-    WritesAt (decoded f (window_of source) 0 window.len) 0 old new end → WritesText f which bytes end old new
-text_of_window f which bytes source window end old new alike is len whole written =
-    let writes = writes_window f which source 0 window 0 end old new is whole written in
-    record {
-      text = all_decoded f which bytes [] _ window.len
-          (decoded_in f which (window_of source) (window_of bytes) [] _ 0 0 window.len false (λ k small. windows_alike source bytes alike (0 + k)) writes.text) len;
-      fits = omega (arith, writes.end, ap (most_written which) len);
-      len = writes.len;
-    }
-
--- ---- pairs
-
-most_of_pair : (which : Strictness) (n : ℕ) → most_written which n + 4 ≤ most_written which (n + 6)
-most_of_pair Strict n = omega arith
-most_of_pair Lossy n = omega arith
+-- ---- pairs and unchanged characters
 
 -- A surrogate pair at the boundary is read, and its UTF-8 is written.
 pub pair_goes_on : (f : Flavor) (which : Strictness) (bytes : List ℕ) (read end new_end : ℕ) → IsPass f bytes read → 6 ≤ length (drop read bytes) →
-    HasPair (drop read bytes) → (four old new : List ℕ) → IsUtf8OfDigits (second_third_fifth_sixth (drop read bytes)) four → length four ≡ 4 →
+    HasPair (drop read bytes) → (four old new : List ℕ) → IsUtf8OfDigits (second_third_fifth_sixth (drop read bytes)) four →
     PutsAt four end old new new_end → new_end ≤ length new → GoesOn f which bytes (pass_at read end) (pass_at (read + 6) new_end) old new
-pair_goes_on f which bytes read end new_end is long has four old new is_utf8 size put fits =
-    let inside : read + 6 ≤ length bytes = omega (arith, long, length-drop read bytes) in
-    record {
-      pass = λ _. record {
-        within = inside;
-        boundary = boundary_after_pair f bytes read is.within is.boundary has long;
-      };
-      within = (omega arith, inside);
-      text = λ start text so_far.
-          more_decoded f which (window_of bytes) start _ _ read 6 false so_far
-          (after_other_text f which (window_of bytes) text _ _ read 6 false (record {
-            bytes = λ _. put.writes.bytes ∙ ap (λ bs. take end old ++ bs) (sym (pair_decoded f bytes read is.within is.boundary has long four is_utf8));
-            refused = λ never. absurd (true≢false (sym never));
-            lossy = λ _. refl;
-            strict = λ _ _ i from to. pair_fine f bytes read is.within is.boundary has long i from to;
-          }));
-      end = omega (arith, put.writes.end, size, most_of_pair which read);
-      inside = fits;
-      len = put.writes.len;
-    }
-
--- ---- unchanged characters
-
-most_of_bytes : (which : Strictness) (n m : ℕ) → m + most_written which n ≤ most_written which (n + m)
-most_of_bytes Strict n m = omega arith
-most_of_bytes Lossy n m = omega arith
+pair_goes_on f which bytes read end new_end is long has four old new is_utf8 put fits =
+    goes_on_here f which bytes (pass_at read end) 6 new_end false old new (omega (arith, long, length-drop read bytes)) (boundary_after_pair f bytes read is.within is.boundary has long)
+    (writes_fine f which (window_of bytes) read 6 end new_end old new
+    (subst (λ bs. WritesAt bs end old new new_end) (sym (pair_decoded f bytes read is.within is.boundary has long four is_utf8)) put.writes)
+    (λ _. pair_fine f bytes read is.within is.boundary has long)) fits
 
 -- The unchanged prefix of what comes next is copied.
 pub front_goes_on : (f : Flavor) (which : Strictness) (bytes part : List ℕ) (k read end len new_end : ℕ) → IsPass f bytes read → part ≡ take k (drop read bytes) →
     IsLongestPrefix Unchanged f part len → (old new : List ℕ) → PutsAt (take len part) end old new new_end → new_end ≤ length new →
     GoesOn f which bytes (pass_at read end) (pass_at (read + len) new_end) old new
-front_goes_on f which bytes part k read end len new_end is part_is front old new put fits = record {
-  pass = λ _. record { within = inside; boundary = subst (λ m. is_boundary_at f (window_of bytes) (read + m) ≡ true) long (boundary_after_text f bytes read is.within is.boundary text more is_text rest_is) };
-  within = (omega arith, inside);
-  text = λ start before so_far.
-      more_decoded f which (window_of bytes) start _ _ read len false so_far
-      (after_other_text f which (window_of bytes) before _ _ read len false (record {
-        bytes = λ _. put.writes.bytes ∙ ap (λ bs. take end old ++ bs) (sym decoded_is);
-        refused = λ never. absurd (true≢false (sym never));
-        lossy = λ _. refl;
-        strict = λ _ _ i from to. text_fine f bytes read is.within is.boundary text more is_text rest_is i from (omega (arith, to, long));
-      }));
-  end = omega (arith, put.writes.end, size, most_of_bytes which read len);
-  inside = fits;
-  len = put.writes.len;
-}
+front_goes_on f which bytes part k read end len new_end is part_is front old new put fits =
+    goes_on_here f which bytes (pass_at read end) len new_end false old new inside
+    (subst (λ m. is_boundary_at f (window_of bytes) (read + m) ≡ true) long (boundary_after_text f bytes read is.within is.boundary text more is_text rest_is))
+    (writes_fine f which (window_of bytes) read len end new_end old new (subst (λ bs. WritesAt bs end old new new_end) (sym decoded_is) put.writes)
+    (λ _ i from to. text_fine f bytes read is.within is.boundary text more is_text rest_is i from (omega (arith, to, long)))) fits
   where
     text : List ℕ
     text = front.whole.text
@@ -196,11 +152,8 @@ front_goes_on f which bytes part k read end len new_end is part_is front old new
     is_text : IsText text
     is_text = front.whole.reads.0
 
-    size : length (take len part) ≡ len
-    size = length-take-le len part front.within
-
     long : length (encoding f text) ≡ len
-    long = ap length front.whole.reads.1 ∙ size
+    long = ap length front.whole.reads.1 ∙ length-take-le len part front.within
 
     rest_is : drop read bytes ≡ encoding f text ++ more
     rest_is =

@@ -11,7 +11,7 @@ use Rattle.std.proofs.lemmas.Nat.{and_mask}
 use Rattle.std.proofs.lemmas.Simd.{SwzOk, swz_l, SwzOk-from_below, length-swz_l, get_or-swz_l_below, length-zip2, get_or-zip2, get_or-replicate, Each1-from_get_or}
 use lib.Lanes.{zip2, pick_l}
 use Rattle.cesu8_decode.specs.Following.{table_bits}
-use Rattle.cesu8_decode.proofs.decoder.FirstLanes.{lanes_are}
+use Rattle.cesu8_decode.proofs.decoder.LanesByIndex.{lanes_are}
 
 -- ---- tests of bytes
 

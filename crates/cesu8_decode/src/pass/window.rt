@@ -60,26 +60,23 @@ pub fn write_window<F: Flavor>(
     ensures unchanged { result.is_unchanged ≡ true → result.is_rejected ≡ false }
 {
     let window = window_at::<F>(bytes, at, count);
-    if window.ill_formed == 0 {
+    if window.ill_formed != 0 && matches!(strictness, Strictness::Strict) {
         return Written {
-            read: window.len,
-            end: write_well_formed_events::<F>(bytes, at, window, out, end),
-            is_rejected: false,
-            is_unchanged: window.pairs | window.nulls == 0,
-        };
-    }
-    match strictness {
-        Strictness::Strict => Written {
             read: window.len,
             end,
             is_rejected: true,
             is_unchanged: false,
-        },
-        Strictness::Lossy => Written {
-            read: window.len,
-            end: write_ill_formed_events::<F>(bytes, at, window, out, end),
-            is_rejected: false,
-            is_unchanged: false,
-        },
+        };
+    }
+    let end = if window.ill_formed == 0 {
+        write_well_formed_events::<F>(bytes, at, window, out, end)
+    } else {
+        write_ill_formed_events::<F>(bytes, at, window, out, end)
+    };
+    Written {
+        read: window.len,
+        end,
+        is_rejected: false,
+        is_unchanged: window.ill_formed | window.pairs | window.nulls == 0,
     }
 }

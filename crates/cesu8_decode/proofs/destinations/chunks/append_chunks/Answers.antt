@@ -6,7 +6,7 @@ use Rattle.std.proofs.lemmas.List.{length-take-le}
 use Rattle.cesu8_decode.specs.Decoding.{IsDecoded}
 use Rattle.cesu8_decode.specs.DecodedOffsets.{window_of}
 use Rattle.cesu8_decode.proofs.chunks.TextAfterPrefix.{none_appended}
-use Rattle.cesu8_decode.proofs.decoder.BlocksInPlace.{all_decoded, decoded_fits, none_decoded, none_rejected, refused_decoded, some_rejected}
+use Rattle.cesu8_decode.proofs.decoder.WrittenWindows.{all_decoded, decoded_fits, none_decoded, none_rejected, refused_decoded, some_rejected}
 use Rattle.cesu8_decode.proofs.decoder.Passes.{at_start, reads_on}
 use Rattle.cesu8_decode.proofs.destinations.chunks.append_chunks.Goals as goal
 

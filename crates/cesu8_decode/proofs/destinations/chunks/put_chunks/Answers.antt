@@ -9,7 +9,7 @@ use Rattle.cesu8_bytes.proofs.lists.Ends.{same_after}
 use Rattle.cesu8_decode.specs.Decoding.{IsDecoded}
 use Rattle.cesu8_decode.specs.DecodedOffsets.{window_of}
 use Rattle.cesu8_decode.proofs.chunks.WrittenChunks.{all_written}
-use Rattle.cesu8_decode.proofs.decoder.BlocksInPlace.{all_decoded, decoded_fits, none_decoded}
+use Rattle.cesu8_decode.proofs.decoder.WrittenWindows.{all_decoded, decoded_fits, none_decoded}
 use Rattle.cesu8_decode.proofs.decoder.Passes.{at_start, reads_on}
 use Rattle.cesu8_decode.proofs.destinations.chunks.put_chunks.Goals as goal
 

@@ -4,7 +4,7 @@ use Rattle.std.proofs.Common.{◌≡◌, ◌+◌, ◌-◌, ◌∙◌, ap, arith,
 use Rattle.std.proofs.lemmas.Bool.{eqb-true}
 use lib.Lanes.{chunk}
 use Rattle.cesu8_decode.specs.Following.{IsBlockAt}
-use Rattle.cesu8_decode.proofs.decoder.FirstLanes.{all_below}
+use Rattle.cesu8_decode.proofs.decoder.LanesByIndex.{all_below}
 use Rattle.cesu8_decode.proofs.decoder.ErrorMasks.{no_error, two_plain, none_of_two, in_both, marked_are, marked_at, marked_if_not_one}
 use Rattle.cesu8_decode.proofs.lanes.following.two_follow.Goals as goal
 

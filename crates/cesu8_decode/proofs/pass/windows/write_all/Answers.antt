@@ -1,7 +1,7 @@
 -- A pass that reads all bytes from the first on has written their text.
 use Rattle.std.proofs.Common.{[], refl, arith}
 use Rattle.cesu8_decode.specs.DecodedOffsets.{window_of}
-use Rattle.cesu8_decode.proofs.decoder.BlocksInPlace.{none_decoded}
+use Rattle.cesu8_decode.proofs.decoder.WrittenWindows.{none_decoded}
 use Rattle.cesu8_decode.proofs.decoder.Passes.{reads_on, writes_reading}
 use Rattle.cesu8_decode.proofs.pass.windows.write_all.Goals as goal
 

@@ -7,7 +7,7 @@ use Rattle.std.proofs.lemmas.List.{take_rest}
 use Rattle.std.proofs.lemmas.Bool.{cases_lt}
 use Rattle.cesu8_decode.specs.DecodedOffsets.{window_of}
 use Rattle.cesu8_decode.proofs.by_offset.WindowOffsets.{agree_later, boundary_agrees}
-use Rattle.cesu8_decode.proofs.decoder.BlocksInPlace.{copied_to_zeros, last_agrees, last_zeros}
+use Rattle.cesu8_decode.proofs.decoder.WrittenWindows.{copied_to_zeros, last_agrees, last_zeros}
 use Rattle.cesu8_decode.proofs.decoder.Passes.{goes_nowhere, goes_further, goes_on_by}
 use Rattle.cesu8_decode.proofs.pass.windows.write_last.Goals as goal
 use Rattle.cesu8_decode.proofs.pass.windows.write_last.Goals.{then-left-gt-LANES, else-left-gt-LANES}

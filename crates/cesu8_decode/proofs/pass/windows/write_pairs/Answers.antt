@@ -29,6 +29,6 @@ loop-at-preserved g c =
           (pair_goes_on f which bytes at c.loop-at.end c.put-end.result ((so_far which).pass refl)
           (omega (arith, c.loop-at-test.true, c.saturating_sub-last.ensures, c.min.ensures, length-drop at bytes))
           (rw take_rest at (c.is_pair.ensures.0 c.if-is_pair.true))
-          c.utf8_of_pair.result _ _ (rw take_rest at c.utf8_of_pair.ensures) (omega arith) put
+          c.utf8_of_pair.result _ _ (rw take_rest at c.utf8_of_pair.ensures) put
           (omega (arith, put.writes.end, put.writes.len, (so_far which).len, room, c.requires.room)));
     }

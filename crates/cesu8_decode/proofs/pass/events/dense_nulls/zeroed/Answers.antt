@@ -2,7 +2,7 @@
 use Rattle.std.proofs.Common.{ap, ◌∙◌, eqb, replicate, w8}
 use Rattle.std.proofs.lemmas.Simd.{tops_compared, zip2_splat}
 use lib.Lanes.{sel_l}
-use Rattle.cesu8_decode.proofs.decoder.EventsPacked.{zeroed_of}
+use Rattle.cesu8_decode.proofs.decoder.PackedLanes.{zeroed_of}
 use Rattle.cesu8_decode.proofs.pass.events.dense_nulls.zeroed.Goals as goal
 
 pub returns : goal.returns

@@ -1,11 +1,12 @@
 -- Before each round the first `written` of the 64 bytes from the start of the window on are packed.
 -- Some of these can be after its end.
 use Rattle.std.proofs.Common.{◌-◌}
-use Rattle.cesu8_decode.proofs.decoder.EventsPacked.{replaced, AreStored}
+use Rattle.cesu8_decode.proofs.decoder.PackedLanes.{AreStored}
+use Rattle.cesu8_decode.proofs.decoder.EventsPacked.{replaced}
 use Rattle.cesu8_decode.proofs.pass.events.replaced.write_replaced.Given as goal
 
 abbrev pub invariant-loop-written : goal.invariant-loop-written
-invariant-loop-written g l = AreStored (replaced l.bytes l.at l.window.ill_formed) 16 l.written l.initial.end l.initial.out l.out l.end
+invariant-loop-written g l = AreStored g.F.Flavor.flavor l.bytes l.at l.window (replaced l.bytes l.at l.window.ill_formed) 3 16 l.written l.initial.end l.initial.out l.out l.end
 
 abbrev pub decreases-loop-written : goal.decreases-loop-written
 decreases-loop-written g l = 64 - l.written

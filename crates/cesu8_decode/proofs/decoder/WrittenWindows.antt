@@ -13,6 +13,7 @@ use Rattle.cesu8_text.specs.Reading.{HasNoStrictReading, reading, lossy_length}
 use Rattle.cesu8_bytes.specs.Packing.{written_for}
 use Rattle.cesu8_bytes.specs.declared.strictness.Strictness.{Strictness}
 use Rattle.cesu8_bytes.specs.declared.strictness.Strictness.TheVariants.{Strict, Lossy}
+use Rattle.cesu8_bytes.specs.Puts.{WritesAt}
 use Rattle.cesu8_bytes.specs.TextChunks.{IsReadSoFar}
 use Rattle.cesu8_bytes.proofs.vectors.Loads.{padded, zeros_at}
 use Rattle.cesu8_decode.specs.DecodedOffsets.{window_of, is_ill_formed_at, decoded_byte, decoded}
@@ -121,24 +122,21 @@ decoded_in f which a b before text i j n is_rejected agree is = record {
     same : (s : ℕ) → s < n → is_ill_formed_at f a (i + s) ≡ is_ill_formed_at f b (j + s)
     same s small = ill_formed_agrees f a b (i + s) (j + s) (agree_later a b i j (n + 10) s 11 (omega arith) agree)
 
--- The text of a window, in which strict decoding accepts no ill-formed byte, is written.
+-- The text of n bytes is written, none of which strict decoding rejects.
+pub writes_fine : (f : Flavor) (which : Strictness) (window : List ℕ) (at n start end : ℕ) (old new : List ℕ) → WritesAt (decoded f window at n) start old new end →
+    (which ≡ Strict → (i : ℕ) → at ≤ i → i < at + n → is_ill_formed_at f window i ≡ false) → WritesDecoded f which window at n start old new end false
+writes_fine f which window at n start end old new written fine = record {
+  text = record { bytes = λ _. written.bytes; refused = λ never. absurd (true≢false (sym never)); lossy = λ _. refl; strict = λ strict _. fine strict };
+  end = omega (arith, written.end, no_longer f which window at n fine);
+  len = written.len;
+}
+
+-- The text of a window is written.
 pub writes_window : (f : Flavor) (which : Strictness) (bytes : List ℕ) (at : ℕ) (window : Window) (start end : ℕ) (old new : List ℕ) →
     IsWindow f bytes at window → (which ≡ Strict → window.ill_formed ≡ 0) → WritesWindow f bytes at window start old new end →
     WritesDecoded f which (window_of bytes) at window.len start old new end false
 writes_window f which bytes at window start end old new is whole written =
-    let fine : which ≡ Strict → (i : ℕ) → at ≤ i → i < at + window.len → is_ill_formed_at f (window_of bytes) i ≡ false =
-    λ strict. none_in_window f bytes at window is (whole strict) in record {
-      text = record { bytes = λ _. written.bytes; refused = λ never. absurd (true≢false (sym never)); lossy = λ _. refl; strict = λ strict _. fine strict };
-      end = omega (arith, written.end, no_longer f which (window_of bytes) at window.len fine);
-      len = written.len;
-    }
-
--- In lossy decoding any window is written.
-pub writes_lossily : (f : Flavor) (which : Strictness) (bytes : List ℕ) (at : ℕ) (window : Window) (start end : ℕ) (old new : List ℕ) →
-    IsWindow f bytes at window → which ≡ Lossy → WritesWindow f bytes at window start old new end →
-    WritesDecoded f which (window_of bytes) at window.len start old new end false
-writes_lossily f which bytes at window start end old new is lossy written =
-    writes_window f which bytes at window start end old new is (λ strict. absurd (let e = sym lossy ∙ strict in cc)) written
+    writes_fine f which (window_of bytes) at window.len start end old new written (λ strict. none_in_window f bytes at window is (whole strict))
 
 -- If strict decoding rejects a window, nothing is written.
 pub rejects_window : (f : Flavor) (which : Strictness) (bytes : List ℕ) (at : ℕ) (window : Window) (start : ℕ) (old : List ℕ) →
