@@ -8,12 +8,12 @@
 //! A block inside a string can be copied if no byte of it changes, nor one of the two before it. If
 //! only null characters change, no neighbour matters, and computing the lanes takes fewer steps.
 
-ghost use Rattle.std.specs.Prelude.{◌≡◌, List, Bool, ◌+◌, ◌*◌, ◌<◌, ◌≤◌, ◌++◌, length, take, IsTrue};
+ghost use Rattle.std.specs.Prelude.{◌≡◌, List, Bool, ◌+◌, ◌*◌, ◌<◌, ◌≤◌, ◌↔◌, ◌++◌, length, take, IsTrue};
 ghost use Rattle.std.specs.Simd.Lanes.{chunk, mask_l};
 ghost use Rattle.cesu8_text.specs.Class.{is_at_least_f0};
 ghost use Rattle.cesu8_bytes.specs.Kernels.{AnyIn};
 ghost use Rattle.cesu8_bytes.specs.Puts.{WritesAt};
-ghost use Rattle.cesu8_encode.specs.EncodedOffsets.{packed, packed_len, encoded_bytes, AreLanes, WritesLanes};
+ghost use Rattle.cesu8_encode.specs.EncodedOffsets.{packed, encoded_bytes, AreLanes, WritesLanes};
 
 use super::rows::doubling_rows;
 use cesu8_bytes::BLOCK;
@@ -38,10 +38,58 @@ const ROW: usize = 8;
 /// The bytes that are stored for the rows of a block. Its encoding has at most as many.
 pub const BLOCK_ENCODED: usize = 2 * BLOCK;
 
-/// Encodes the first `count` bytes of the block that begins `READ_BEFORE` bytes after `at`, and
-/// returns the end of what it wrote.
+/// Returns whether the rows of a block can be stored whole after `end`. What lies after the end of
+/// its encoding is then overwritten by the next block.
 #[inline(always)]
-pub fn write_block<F: Flavor>(
+pub fn has_room(out: &[u8], end: usize) -> bool
+    requires { end ≤ length out.now }
+    ensures { IsTrue result ↔ end + BLOCK_ENCODED ≤ length out.now }
+{
+    BLOCK_ENCODED <= out.len() - end
+}
+
+/// Encodes the first `count` bytes of a window of one block, and returns the end of what it wrote.
+#[inline(always)]
+pub fn write_block<F: Flavor>(window: &[u8], count: usize, out: &mut [u8], end: usize) -> usize
+    requires window { BLOCK_READ ≤ length window.now }
+    requires count { count ≤ BLOCK }
+    requires room { end + length (encoded_bytes F.flavor window.now 0 count) ≤ length out.old }
+    ensures { WritesAt (encoded_bytes F.flavor window.now 0 count) end out.old out.new result }
+{
+    if has_room(out, end) {
+        return encode_by_call::<F>(window, count, out, end);
+    }
+    encode_to_end::<F>(window, count, out, end)
+}
+
+/// Like `write_block`, if the rows do not fit: they are stored to an array, and copied.
+#[inline(never)]
+pub fn encode_to_end<F: Flavor>(window: &[u8], count: usize, out: &mut [u8], end: usize) -> usize
+    requires window { BLOCK_READ ≤ length window.now }
+    requires count { count ≤ BLOCK }
+    requires room { end + length (encoded_bytes F.flavor window.now 0 count) ≤ length out.old }
+    ensures { WritesAt (encoded_bytes F.flavor window.now 0 count) end out.old out.new result }
+{
+    let mut stored = [0; BLOCK_ENCODED];
+    let len = encode_by_call::<F>(window, count, &mut stored, 0);
+    put(&stored[..len], out, end)
+}
+
+/// Like `encode`, for a window of one block. It is not inlined, since it has several callers.
+#[inline(never)]
+fn encode_by_call<F: Flavor>(window: &[u8], count: usize, out: &mut [u8], end: usize) -> usize
+    requires window { BLOCK_READ ≤ length window.now }
+    requires count { count ≤ BLOCK }
+    requires room { end + BLOCK_ENCODED ≤ length out.old }
+    ensures { WritesAt (encoded_bytes F.flavor window.now 0 count) end out.old out.new result }
+{
+    encode::<F>(window, 0, count, out, end)
+}
+
+/// Encodes the first `count` bytes of the block that begins `READ_BEFORE` bytes after `at`, if its
+/// rows can be stored whole, and returns the end of what it wrote.
+#[inline(always)]
+pub fn encode<F: Flavor>(
     window: &[u8],
     at: usize,
     count: usize,
@@ -50,27 +98,11 @@ pub fn write_block<F: Flavor>(
 ) -> usize
     requires window { at + BLOCK_READ ≤ length window.now }
     requires count { count ≤ BLOCK }
-    requires room { end + length (encoded_bytes F.flavor window.now at count) ≤ length out.old }
+    requires room { end + BLOCK_ENCODED ≤ length out.old }
     ensures { WritesAt (encoded_bytes F.flavor window.now at count) end out.old out.new result }
 {
     let block = encode_block::<F>(window, at);
-    write_lanes(&block, count, out, end)
-}
-
-/// Like `write_block`, for a window of one block. It is not inlined, since it has several callers.
-#[inline(never)]
-pub fn write_block_by_call<F: Flavor>(
-    window: &[u8],
-    count: usize,
-    out: &mut [u8],
-    end: usize,
-) -> usize
-    requires window { BLOCK_READ ≤ length window.now }
-    requires count { count ≤ BLOCK }
-    requires room { end + length (encoded_bytes F.flavor window.now 0 count) ≤ length out.old }
-    ensures { WritesAt (encoded_bytes F.flavor window.now 0 count) end out.old out.new result }
-{
-    write_block::<F>(window, 0, count, out, end)
+    store_block(&block, count, out, end)
 }
 
 /// Returns true only if the block is unchanged, whatever byte follows it.
@@ -84,13 +116,13 @@ pub fn is_unchanged<F: Flavor>(window: &[u8], at: usize) -> bool
     !any_in_ends::<Either<F::Null, AtLeastF0>, BLOCK>(near)
 }
 
-/// Encodes a block of a window without a byte of F0 or more (hexadecimal), and returns the end of
-/// what it wrote. Null characters become C0 80.
+/// Like `encode`, for the whole block and a window without a byte of F0 or more (hexadecimal). Null
+/// characters become C0 80.
 #[inline(always)]
 pub fn encode_nulls<F: Flavor>(window: &[u8], at: usize, out: &mut [u8], end: usize) -> usize
     requires window { at + BLOCK_READ ≤ length window.now }
     requires low { ¬ (AnyIn is_at_least_f0 window.now) }
-    requires room { end + length (encoded_bytes F.flavor window.now at BLOCK) ≤ length out.old }
+    requires room { end + BLOCK_ENCODED ≤ length out.old }
     ensures { WritesAt (encoded_bytes F.flavor window.now at BLOCK) end out.old out.new result }
 {
     let bytes = u8x32::from_slice(&window[at + READ_BEFORE..]);
@@ -99,7 +131,7 @@ pub fn encode_nulls<F: Flavor>(window: &[u8], at: usize, out: &mut [u8], end: us
         firsts: u8x32::splat(0xC0),
         doubled: bits::<F::Null, BLOCK>(bytes),
     };
-    write_lanes(&block, BLOCK, out, end)
+    store_block(&block, BLOCK, out, end)
 }
 
 /// What is written for the bytes of a block: for each byte its lane of `seconds`, preceded by its
@@ -156,25 +188,6 @@ fn store_row(lanes: u8x16, doubled: usize, out: &mut [u8], at: usize) -> usize
     let packed = lanes.swizzle_dyn(u8x16::from_array(doubling_rows()[doubled]));
     packed.copy_to_slice(&mut out[at..]);
     at + ROW + doubled.count_ones() as usize
-}
-
-/// Writes what the lanes say for the first `count` bytes of a block, and returns its end.
-///
-/// If the four rows fit, they are stored whole, and the next block overwrites what lies after the
-/// end.
-#[inline(always)]
-fn write_lanes(block: &EncodedBlock, count: usize, out: &mut [u8], end: usize) -> usize
-    requires count { count ≤ BLOCK }
-    requires room { end + packed_len block.now.doubled count ≤ length out.old }
-    ensures { WritesLanes block.now.seconds block.now.firsts block.now.doubled
-        count end out.old out.new result }
-{
-    if BLOCK_ENCODED <= out.len() - end {
-        return store_block(block, count, out, end);
-    }
-    let mut stored = [0; BLOCK_ENCODED];
-    let len = store_block(block, count, &mut stored, 0);
-    put(&stored[..len], out, end)
 }
 
 // Expands to the row of eight bytes of a block: their lanes of `seconds`, and then their lanes of

@@ -8,10 +8,11 @@ ghost use Rattle.std.specs.Str.{chars};
 ghost use Rattle.cesu8_text.specs.Encoding.{encoding};
 ghost use Rattle.cesu8_encode.specs.Encoded.{WritesEncoding};
 ghost use Rattle.cesu8_encode.specs.EncodedOffsets.{recoded, IsWritten, Writes};
+ghost use Rattle.cesu8_encode.specs.Strategies.{FitsMiddle};
 
-use super::blocks::{BLOCK_READ, READ_AFTER, READ_BEFORE, write_block_by_call};
-use super::middle_blocks::write_middle_block;
-use super::strategy::{is_block, middle_of};
+use super::blocks::{BLOCK_READ, READ_AFTER, READ_BEFORE, has_room, write_block};
+use super::middle_blocks::{write_block_to_end, write_middle_block};
+use super::strategy::{Middle, is_block, middle_of};
 use cesu8_bytes::BLOCK;
 use cesu8_bytes::flavor::Flavor;
 use cesu8_bytes::lanes::short::copy_short;
@@ -30,7 +31,7 @@ pub fn write<F: Flavor>(text: &str, more: usize, out: &mut [u8]) -> usize
     let bytes = text.as_bytes();
     let mut window = [0; BLOCK_READ];
     copy_short(bytes, &mut window[READ_BEFORE..]);
-    write_block_by_call::<F>(&window, bytes.len(), out, 0)
+    write_block::<F>(&window, bytes.len(), out, 0)
 }
 
 /// Like `write`, for more than a block. `more` only decides which strategy encodes the blocks.
@@ -57,7 +58,7 @@ fn write_first_block<F: Flavor>(text: &[u8], out: &mut [u8]) -> usize
     let mut window = [0; BLOCK_READ];
     // Zeros stand for the bytes before the block.
     window[READ_BEFORE..].copy_from_slice(&text[..BLOCK + READ_AFTER]);
-    write_block_by_call::<F>(&window, BLOCK, out, 0)
+    write_block::<F>(&window, BLOCK, out, 0)
 }
 
 /// Encodes the blocks between the first and the last, and returns the end of what it wrote. The
@@ -80,10 +81,58 @@ fn write_middle<F: Flavor>(
         // The last block follows the first one, so testing the string gains nothing.
         return start;
     }
-    let middle = middle_of::<F>(text, more, blocks);
+    match middle_of::<F>(text, more, blocks) {
+        Middle::NullChange => { write_middle_by::<F>(text, blocks, Middle::NullChange, out, start) }
+        Middle::CopyUnchanged => {
+            write_middle_by::<F>(text, blocks, Middle::CopyUnchanged, out, start)
+        }
+        Middle::AnyChange => write_middle_by::<F>(text, blocks, Middle::AnyChange, out, start),
+    }
+}
+
+/// Like `write_middle`, by a given strategy. It is inlined, so that each strategy has a loop of its
+/// own that does not test which strategy it is. The rows of the last blocks may not fit, and these
+/// blocks are left to a call, so that the loop has none.
+#[inline(always)]
+fn write_middle_by<F: Flavor>(
+    text: &[u8],
+    blocks: usize,
+    middle: Middle,
+    out: &mut [u8],
+    start: usize,
+) -> usize
+    requires fits { FitsMiddle middle text.now }
+    requires blocks { (0 < blocks) × (BLOCK * blocks < length text.now) }
+    requires room { length (recoded F.flavor text.now) ≤ length out.old }
+    requires first { IsWritten F.flavor text.now BLOCK out.old start }
+    ensures { Writes F.flavor text.now (BLOCK * blocks) out.old out.new result }
+{
     let mut end = start;
-    for i in 1..blocks {
+    let mut i = 1;
+    while i < blocks && has_room(out, end) {
         end = write_middle_block::<F>(text, BLOCK * i - READ_BEFORE, middle, out, end);
+        i += 1;
+    }
+    write_middle_to_end::<F>(text, i, blocks, out, end)
+}
+
+/// Encodes the blocks from `first` to `blocks`, and returns the end of what it wrote.
+#[inline(never)]
+fn write_middle_to_end<F: Flavor>(
+    text: &[u8],
+    first: usize,
+    blocks: usize,
+    out: &mut [u8],
+    start: usize,
+) -> usize
+    requires blocks { (0 < first) × (first ≤ blocks) × (BLOCK * blocks < length text.now) }
+    requires room { length (recoded F.flavor text.now) ≤ length out.old }
+    requires before { IsWritten F.flavor text.now (BLOCK * first) out.old start }
+    ensures { Writes F.flavor text.now (BLOCK * blocks) out.old out.new result }
+{
+    let mut end = start;
+    for i in first..blocks {
+        end = write_block_to_end::<F>(text, BLOCK * i - READ_BEFORE, out, end);
     }
     end
 }
@@ -100,5 +149,5 @@ fn write_last_block<F: Flavor>(text: &[u8], at: usize, out: &mut [u8], end: usiz
     // Zeros stand for the bytes after the block.
     let near = &text[at - READ_BEFORE..];
     window[..near.len()].copy_from_slice(near);
-    write_block_by_call::<F>(&window, text.len() - at, out, end)
+    write_block::<F>(&window, text.len() - at, out, end)
 }

@@ -6,7 +6,7 @@ ghost use Rattle.cesu8_bytes.specs.Puts.{WritesAt};
 ghost use Rattle.cesu8_encode.specs.EncodedOffsets.{encoded_bytes};
 ghost use Rattle.cesu8_encode.specs.Strategies.{FitsMiddle};
 
-use super::blocks::{BLOCK_READ, READ_BEFORE, encode_nulls, is_unchanged, write_block};
+use super::blocks::{BLOCK_ENCODED, BLOCK_READ, READ_BEFORE, encode, encode_nulls, encode_to_end, is_unchanged};
 use super::strategy::Middle;
 use cesu8_bytes::BLOCK;
 use cesu8_bytes::flavor::Flavor;
@@ -14,8 +14,7 @@ use cesu8_bytes::writing::offsets::put_lanes;
 use std::simd::prelude::*;
 
 /// Encodes the whole block that begins `READ_BEFORE` bytes after `at`, and returns the end of what
-/// it wrote. The strategy is tested for each block, which costs less than a loop for each strategy:
-/// these branches are predicted, and the code to encode a block is large.
+/// it wrote.
 #[inline(always)]
 pub fn write_middle_block<F: Flavor>(
     text: &[u8],
@@ -26,7 +25,7 @@ pub fn write_middle_block<F: Flavor>(
 ) -> usize
     requires window { at + BLOCK_READ ≤ length text.now }
     requires fits { FitsMiddle middle text.now }
-    requires room { end + length (encoded_bytes F.flavor text.now at BLOCK) ≤ length out.old }
+    requires room { end + BLOCK_ENCODED ≤ length out.old }
     ensures { WritesAt (encoded_bytes F.flavor text.now at BLOCK) end out.old out.new result }
 {
     // CESU-8 does not change null characters, so it has no code for them.
@@ -36,5 +35,18 @@ pub fn write_middle_block<F: Flavor>(
     if matches!(middle, Middle::CopyUnchanged) && is_unchanged::<F>(text, at) {
         return put_lanes(u8x32::from_slice(&text[at + READ_BEFORE..]), out, end);
     }
-    write_block::<F>(text, at, BLOCK, out, end)
+    encode::<F>(text, at, BLOCK, out, end)
+}
+
+/// Like `write_middle_block`, if the rows do not fit, by a strategy for any string.
+#[inline(always)]
+pub fn write_block_to_end<F: Flavor>(text: &[u8], at: usize, out: &mut [u8], end: usize) -> usize
+    requires window { at + BLOCK_READ ≤ length text.now }
+    requires room { end + length (encoded_bytes F.flavor text.now at BLOCK) ≤ length out.old }
+    ensures { WritesAt (encoded_bytes F.flavor text.now at BLOCK) end out.old out.new result }
+{
+    if is_unchanged::<F>(text, at) {
+        return put_lanes(u8x32::from_slice(&text[at + READ_BEFORE..]), out, end);
+    }
+    encode_to_end::<F>(&text[at..at + BLOCK_READ], BLOCK, out, end)
 }

@@ -2,7 +2,7 @@
 -- ends.
 use Rattle.std.proofs.lemmas.Bool.Decides.{nat_tests}
 use Rattle.std.proofs.lemmas.Grind.{common_steps}
-use Rattle.std.proofs.Common.{◌≡◌, ℕ, zero, suc, ◌+◌, ◌-◌, ◌*◌, ◌%◌, ◌^◌, ◌<◌, ◌≤◌, Bool, cond, List, [], ◌∷◌, ◌++◌, map, refl, sym, ap, ◌∙◌, arith, length, take, drop, get_or, replicate, bit_and, length-append, append_assoc, count_ones}
+use Rattle.std.proofs.Common.{◌≡◌, ℕ, zero, suc, ◌+◌, ◌-◌, ◌*◌, ◌%◌, ◌^◌, ◌<◌, ◌≤◌, Bool, cond, List, [], ◌∷◌, ◌++◌, map, refl, sym, ap, ◌∙◌, arith, length, take, drop, get_or, replicate, bit_and, length-append, append_assoc, count_ones, zero-add}
 use Rattle.std.specs.List.{flat_map, range_with_len}
 use Rattle.std.proofs.lemmas.List.{append-nil, get_or-drop, get_or-take, length-drop, length-take-le, take_all, take_at, take-take}
 use Rattle.std.proofs.lemmas.List.Concat.{flat_map-append}
@@ -149,6 +149,15 @@ encoded_bytes_last f text near i n le is =
     encoded_bytes_agree f (near ++ drop m (replicate 35 0)) near 0 0 n
     (λ k l. padded near (drop m (replicate 35 0)) (zeros_left 35 m) (0 + k))
     ∙ ap (λ window. encoded_bytes f window 0 n) is ∙ encoded_bytes_drop f text i n le
+
+-- A block inside the text: a window of the block, two bytes before it and one after it gives the
+-- same as the text.
+pub encoded_bytes_window : (f : Flavor) (text : List ℕ) (at n : ℕ) → n ≡ 35 →
+    encoded_bytes f (take n (drop at text)) 0 32 ≡ encoded_bytes f text at 32
+encoded_bytes_window f text at n all =
+    let window = take n (drop at text) in
+    encoded_bytes_agree f window text 0 at 32
+    (λ k l. ap (λ i. get_or window i 0) (zero-add k) ∙ get_or-take n (drop at text) k 0 (omega arith) ∙ get_or-drop at text k 0)
 
 -- What is written for n bytes and then for m fits if what is written for at least as many bytes
 -- does.
