@@ -8,12 +8,12 @@
 //! A block inside a string can be copied if no byte of it changes, nor one of the two before it. If
 //! only null characters change, no neighbour matters, and computing the lanes takes fewer steps.
 
-ghost use Rattle.std.specs.Prelude.{◌≡◌, List, Bool, ◌+◌, ◌*◌, ◌<◌, ◌≤◌, ◌↔◌, ◌++◌, length, take, IsTrue};
+ghost use Rattle.std.specs.Prelude.{◌≡◌, List, Bool, ◌+◌, ◌*◌, ◌-◌, ◌<◌, ◌≤◌, ◌++◌, length, take, count_ones, IsTrue};
 ghost use Rattle.std.specs.Simd.Lanes.{chunk, mask_l};
 ghost use Rattle.cesu8_text.specs.Class.{is_at_least_f0};
 ghost use Rattle.cesu8_bytes.specs.Kernels.{AnyIn};
 ghost use Rattle.cesu8_bytes.specs.Puts.{WritesAt};
-ghost use Rattle.cesu8_encode.specs.EncodedOffsets.{packed, encoded_bytes, AreLanes, WritesLanes};
+ghost use Rattle.cesu8_encode.specs.EncodedOffsets.{packed, packed_len, encoded_bytes, AreLanes, WritesLanes};
 
 use super::rows::doubling_rows;
 use cesu8_bytes::BLOCK;
@@ -33,20 +33,10 @@ pub const READ_AFTER: usize = 1;
 pub const BLOCK_READ: usize = READ_BEFORE + BLOCK + READ_AFTER;
 
 /// The bytes of a block that form a row.
-const ROW: usize = 8;
+pub const ROW: usize = 8;
 
 /// The bytes that are stored for the rows of a block. Its encoding has at most as many.
 pub const BLOCK_ENCODED: usize = 2 * BLOCK;
-
-/// Returns whether the rows of a block can be stored whole after `end`. What lies after the end of
-/// its encoding is then overwritten by the next block.
-#[inline(always)]
-pub fn has_room(out: &[u8], end: usize) -> bool
-    requires { end ≤ length out.now }
-    ensures { IsTrue result ↔ end + BLOCK_ENCODED ≤ length out.now }
-{
-    BLOCK_ENCODED <= out.len() - end
-}
 
 /// Encodes the first `count` bytes of a window of one block, and returns the end of what it wrote.
 #[inline(always)]
@@ -56,40 +46,42 @@ pub fn write_block<F: Flavor>(window: &[u8], count: usize, out: &mut [u8], end: 
     requires room { end + length (encoded_bytes F.flavor window.now 0 count) ≤ length out.old }
     ensures { WritesAt (encoded_bytes F.flavor window.now 0 count) end out.old out.new result }
 {
-    if has_room(out, end) {
-        return encode_by_call::<F>(window, count, out, end);
+    if BLOCK_ENCODED <= out.len() - end {
+        return write_rows_by_call::<F>(window, count, out, end);
     }
-    encode_to_end::<F>(window, count, out, end)
+    write_by_array::<F>(window, count, out, end)
 }
 
-/// Like `write_block`, if the rows do not fit: they are stored to an array, and copied.
+/// Like `write_block`, if the rows may not fit: they are stored to an array, and copied from there.
 #[inline(never)]
-pub fn encode_to_end<F: Flavor>(window: &[u8], count: usize, out: &mut [u8], end: usize) -> usize
+fn write_by_array<F: Flavor>(window: &[u8], count: usize, out: &mut [u8], end: usize) -> usize
     requires window { BLOCK_READ ≤ length window.now }
     requires count { count ≤ BLOCK }
     requires room { end + length (encoded_bytes F.flavor window.now 0 count) ≤ length out.old }
     ensures { WritesAt (encoded_bytes F.flavor window.now 0 count) end out.old out.new result }
 {
     let mut stored = [0; BLOCK_ENCODED];
-    let len = encode_by_call::<F>(window, count, &mut stored, 0);
+    let len = write_rows_by_call::<F>(window, count, &mut stored, 0);
     put(&stored[..len], out, end)
 }
 
-/// Like `encode`, for a window of one block. It is not inlined, since it has several callers.
+/// Like `write_rows`, for a window of one block. It is not inlined, since it has several callers.
 #[inline(never)]
-fn encode_by_call<F: Flavor>(window: &[u8], count: usize, out: &mut [u8], end: usize) -> usize
+fn write_rows_by_call<F: Flavor>(window: &[u8], count: usize, out: &mut [u8], end: usize) -> usize
     requires window { BLOCK_READ ≤ length window.now }
     requires count { count ≤ BLOCK }
     requires room { end + BLOCK_ENCODED ≤ length out.old }
     ensures { WritesAt (encoded_bytes F.flavor window.now 0 count) end out.old out.new result }
 {
-    encode::<F>(window, 0, count, out, end)
+    write_rows::<F>(window, 0, count, out, end)
 }
 
-/// Encodes the first `count` bytes of the block that begins `READ_BEFORE` bytes after `at`, if its
-/// rows can be stored whole, and returns the end of what it wrote.
+/// Encodes the first `count` bytes of the block that begins `READ_BEFORE` bytes after `at`, and
+/// returns the end of what it wrote. The last row has at least `ROW` bytes, and its vector twice as
+/// many. So all rows fit if at least `ROW` bytes are written after the block, and what lies after
+/// its end is then overwritten.
 #[inline(always)]
-pub fn encode<F: Flavor>(
+pub fn write_rows<F: Flavor>(
     window: &[u8],
     at: usize,
     count: usize,
@@ -98,7 +90,8 @@ pub fn encode<F: Flavor>(
 ) -> usize
     requires window { at + BLOCK_READ ≤ length window.now }
     requires count { count ≤ BLOCK }
-    requires room { end + BLOCK_ENCODED ≤ length out.old }
+    requires room { end + length (encoded_bytes F.flavor window.now at (BLOCK - ROW)) + 2 * ROW
+        ≤ length out.old }
     ensures { WritesAt (encoded_bytes F.flavor window.now at count) end out.old out.new result }
 {
     let block = encode_block::<F>(window, at);
@@ -116,13 +109,14 @@ pub fn is_unchanged<F: Flavor>(window: &[u8], at: usize) -> bool
     !any_in_ends::<Either<F::Null, AtLeastF0>, BLOCK>(near)
 }
 
-/// Like `encode`, for the whole block and a window without a byte of F0 or more (hexadecimal). Null
+/// Like `write_rows`, for a whole block of a window without a byte of F0 or more (hexadecimal). Null
 /// characters become C0 80.
 #[inline(always)]
-pub fn encode_nulls<F: Flavor>(window: &[u8], at: usize, out: &mut [u8], end: usize) -> usize
+pub fn write_nulls<F: Flavor>(window: &[u8], at: usize, out: &mut [u8], end: usize) -> usize
     requires window { at + BLOCK_READ ≤ length window.now }
     requires low { ¬ (AnyIn is_at_least_f0 window.now) }
-    requires room { end + BLOCK_ENCODED ≤ length out.old }
+    requires room { end + length (encoded_bytes F.flavor window.now at (BLOCK - ROW)) + 2 * ROW
+        ≤ length out.old }
     ensures { WritesAt (encoded_bytes F.flavor window.now at BLOCK) end out.old out.new result }
 {
     let bytes = u8x32::from_slice(&window[at + READ_BEFORE..]);
@@ -182,7 +176,8 @@ fn store_row(lanes: u8x16, doubled: usize, out: &mut [u8], at: usize) -> usize
     ensures bytes { (ts : List Bool) → length ts ≡ ROW → doubled ≡ mask_l ts
         → take result out.new
         ≡ take at out.old ++ packed ts (chunk ROW ROW lanes) (chunk 0 ROW lanes) }
-    ensures end { (at ≤ result) × (result ≤ at + 2 * ROW) }
+    ensures end { result ≡ at + ROW + count_ones doubled }
+    ensures within { result ≤ at + 2 * ROW }
     ensures len { length out.new ≡ length out.old }
 {
     let packed = lanes.swizzle_dyn(u8x16::from_array(doubling_rows()[doubled]));
@@ -202,7 +197,7 @@ macro_rules! row {
 #[inline(always)]
 fn store_block(block: &EncodedBlock, count: usize, out: &mut [u8], end: usize) -> usize
     requires count { count ≤ BLOCK }
-    requires room { end + BLOCK_ENCODED ≤ length out.old }
+    requires room { end + packed_len block.now.doubled (BLOCK - ROW) + 2 * ROW ≤ length out.old }
     ensures { WritesLanes block.now.seconds block.now.firsts block.now.doubled
         count end out.old out.new result }
 {

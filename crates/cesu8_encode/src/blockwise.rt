@@ -10,8 +10,8 @@ ghost use Rattle.cesu8_encode.specs.Encoded.{WritesEncoding};
 ghost use Rattle.cesu8_encode.specs.EncodedOffsets.{recoded, IsWritten, Writes};
 ghost use Rattle.cesu8_encode.specs.Strategies.{FitsMiddle};
 
-use super::blocks::{BLOCK_READ, READ_AFTER, READ_BEFORE, has_room, write_block};
-use super::middle_blocks::{write_block_to_end, write_middle_block};
+use super::blocks::{BLOCK_READ, READ_AFTER, READ_BEFORE, ROW, write_block};
+use super::middle_blocks::write_middle_block;
 use super::strategy::{Middle, is_block, middle_of};
 use cesu8_bytes::BLOCK;
 use cesu8_bytes::flavor::Flavor;
@@ -72,7 +72,8 @@ fn write_middle<F: Flavor>(
     out: &mut [u8],
     start: usize,
 ) -> usize
-    requires blocks { (0 < blocks) × (BLOCK * blocks < length text.now) }
+    requires blocks { (0 < blocks) × (BLOCK * blocks < length text.now)
+        × (length text.now ≤ BLOCK * blocks + BLOCK) }
     requires room { length (recoded F.flavor text.now) ≤ length out.old }
     requires first { IsWritten F.flavor text.now BLOCK out.old start }
     ensures { Writes F.flavor text.now (BLOCK * blocks) out.old out.new result }
@@ -81,18 +82,18 @@ fn write_middle<F: Flavor>(
         // The last block follows the first one, so testing the string gains nothing.
         return start;
     }
-    match middle_of::<F>(text, more, blocks) {
-        Middle::NullChange => { write_middle_by::<F>(text, blocks, Middle::NullChange, out, start) }
-        Middle::CopyUnchanged => {
-            write_middle_by::<F>(text, blocks, Middle::CopyUnchanged, out, start)
-        }
-        Middle::AnyChange => write_middle_by::<F>(text, blocks, Middle::AnyChange, out, start),
+    // After these blocks come at least `ROW` bytes, so that their rows fit.
+    let followed = (text.len() - ROW) / BLOCK;
+    let middle = middle_of::<F>(text, more, blocks);
+    let end = write_middle_by::<F>(text, followed, middle, out, start);
+    if followed == blocks {
+        return end;
     }
+    let at = BLOCK * followed - READ_BEFORE;
+    write_block::<F>(&text[at..at + BLOCK_READ], BLOCK, out, end)
 }
 
-/// Like `write_middle`, by a given strategy. It is inlined, so that each strategy has a loop of its
-/// own that does not test which strategy it is. The rows of the last blocks may not fit, and these
-/// blocks are left to a call, so that the loop has none.
+/// Like `write_middle`, by a given strategy, for blocks that `ROW` bytes follow.
 #[inline(always)]
 fn write_middle_by<F: Flavor>(
     text: &[u8],
@@ -102,37 +103,39 @@ fn write_middle_by<F: Flavor>(
     start: usize,
 ) -> usize
     requires fits { FitsMiddle middle text.now }
-    requires blocks { (0 < blocks) × (BLOCK * blocks < length text.now) }
+    requires blocks { (0 < blocks) × (BLOCK * blocks + ROW ≤ length text.now) }
+    requires room { length (recoded F.flavor text.now) ≤ length out.old }
+    requires first { IsWritten F.flavor text.now BLOCK out.old start }
+    ensures { Writes F.flavor text.now (BLOCK * blocks) out.old out.new result }
+{
+    match middle {
+        Middle::CopyUnchanged => {
+            write_each_block::<F>(text, blocks, Middle::CopyUnchanged, out, start)
+        }
+        Middle::NullChange => write_each_block::<F>(text, blocks, Middle::NullChange, out, start),
+        Middle::AnyChange => write_each_block::<F>(text, blocks, Middle::AnyChange, out, start),
+    }
+}
+
+/// Like `write_middle_by`. It is inlined for each strategy, so that the loop does not test which one
+/// it is.
+#[inline(always)]
+fn write_each_block<F: Flavor>(
+    text: &[u8],
+    blocks: usize,
+    middle: Middle,
+    out: &mut [u8],
+    start: usize,
+) -> usize
+    requires fits { FitsMiddle middle text.now }
+    requires blocks { (0 < blocks) × (BLOCK * blocks + ROW ≤ length text.now) }
     requires room { length (recoded F.flavor text.now) ≤ length out.old }
     requires first { IsWritten F.flavor text.now BLOCK out.old start }
     ensures { Writes F.flavor text.now (BLOCK * blocks) out.old out.new result }
 {
     let mut end = start;
-    let mut i = 1;
-    while i < blocks && has_room(out, end) {
+    for i in 1..blocks {
         end = write_middle_block::<F>(text, BLOCK * i - READ_BEFORE, middle, out, end);
-        i += 1;
-    }
-    write_middle_to_end::<F>(text, i, blocks, out, end)
-}
-
-/// Encodes the blocks from `first` to `blocks`, and returns the end of what it wrote.
-#[inline(never)]
-fn write_middle_to_end<F: Flavor>(
-    text: &[u8],
-    first: usize,
-    blocks: usize,
-    out: &mut [u8],
-    start: usize,
-) -> usize
-    requires blocks { (0 < first) × (first ≤ blocks) × (BLOCK * blocks < length text.now) }
-    requires room { length (recoded F.flavor text.now) ≤ length out.old }
-    requires before { IsWritten F.flavor text.now (BLOCK * first) out.old start }
-    ensures { Writes F.flavor text.now (BLOCK * blocks) out.old out.new result }
-{
-    let mut end = start;
-    for i in first..blocks {
-        end = write_block_to_end::<F>(text, BLOCK * i - READ_BEFORE, out, end);
     }
     end
 }

@@ -1,16 +1,20 @@
 -- After each block its encoding is appended, so one block more is written. It fits, since the whole
--- encoding does.
+-- encoding does, and its rows fit, since eight bytes follow the blocks.
 use Rattle.std.proofs.Common.{◌≡◌, ◌+◌, ◌*◌, subst, ◌∙◌, arith}
 use Rattle.cesu8_encode.specs.EncodedOffsets.{IsWritten}
-use Rattle.cesu8_encode.proofs.encoder.EncodedWindows.{encoded_bytes_here, room_after, written_after}
-use Rattle.cesu8_encode.proofs.blockwise.write_middle_to_end.Goals as goal
+use Rattle.cesu8_encode.proofs.encoder.EncodedWindows.{encoded_bytes_here, room_after, rows_fit, written_after}
+use Rattle.cesu8_encode.proofs.blockwise.write_each_block.Goals as goal
 
-pub write_block_to_end-end-requires-clause-room : goal.write_block_to_end-end-requires-clause-room
-write_block_to_end-end-requires-clause-room g c =
+pub write_middle_block-end-requires-clause-room : goal.write_middle_block-end-requires-clause-room
+write_middle_block-end-requires-clause-room g c =
     let f = g.F.Flavor.flavor in
     let text = c.args.text.now in
     let same = encoded_bytes_here f text (32 * c.loop-i.i) 32 (omega arith) in
     omega (arith, room_after f text (32 * c.loop-i.i) 32 c.loop-i.end c.loop-i.out _ same (omega arith) c.loop-i.invariant.written (omega arith))
+
+pub write_middle_block-end-requires-clause-rows : goal.write_middle_block-end-requires-clause-rows
+write_middle_block-end-requires-clause-rows g c =
+    omega (arith, rows_fit g.F.Flavor.flavor c.args.text.now (32 * c.loop-i.i) c.loop-i.end c.loop-i.out (omega arith) (omega arith) c.loop-i.invariant.written (omega arith))
 
 pub loop-i-preserved : goal.loop-i-preserved
 loop-i-preserved g c =
@@ -21,8 +25,8 @@ loop-i-preserved g c =
     let same = encoded_bytes_here f text (32 * c.loop-i.i) 32 (omega arith) in
     let room = room_after f text (32 * c.loop-i.i) 32 c.loop-i.end c.loop-i.out _ same (omega arith) inv.written (omega arith) in
     record {
-      written = subst (λ n. IsWritten f text n c.write_block_to_end-end.new.out c.write_block_to_end-end.result) sum
-          (written_after f text (32 * c.loop-i.i) 32 _ _ _ _ _ inv.written c.write_block_to_end-end.ensures.bytes same
+      written = subst (λ n. IsWritten f text n c.write_middle_block-end.new.out c.write_middle_block-end.result) sum
+          (written_after f text (32 * c.loop-i.i) 32 _ _ _ _ _ inv.written c.write_middle_block-end.ensures.bytes same
           (omega arith));
-      len = c.write_block_to_end-end.ensures.len ∙ inv.len;
+      len = c.write_middle_block-end.ensures.len ∙ inv.len;
     }
