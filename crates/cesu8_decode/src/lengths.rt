@@ -11,11 +11,11 @@ mod counts;
 use crate::lanes::masks::STEP;
 use crate::needs_conversion::begins_changed;
 use crate::prefix::unchanged_prefix;
+use crate::strategy::is_one_block;
 use crate::valid::is_ill_formed;
 use cesu8_bytes::flavor::Flavor;
 use cesu8_bytes::lanes::class::LANES;
-use cesu8_bytes::lanes::short::are_short;
-use counts::{saved_by_lanes, saved_in_short};
+use counts::{saved_by_lanes, saved_in_block, saved_in_short};
 use std::simd::prelude::*;
 
 /// Returns the length of the strictly decoded text in bytes, or `None` if a byte is ill-formed. The
@@ -43,8 +43,8 @@ pub fn lossy_len<F: Flavor>(bytes: &[u8]) -> Option<usize>
     ensures some { IfSome result (λ len. len ≡ lossy_length F.flavor bytes.now) }
     ensures none { IfNone result (usize.MAX < lossy_length F.flavor bytes.now) }
 {
-    if are_short(bytes) {
-        return Some(3 * bytes.len() - saved_in_short::<F>(bytes));
+    if is_one_block(bytes) {
+        return Some(3 * bytes.len() - saved_in_block::<F>(bytes));
     }
     let mut len = 3 * bytes.len() as u128;
     let mut at = 0;

@@ -109,8 +109,8 @@ pub fn is_unchanged<F: Flavor>(window: &[u8], at: usize) -> bool
     !any_in_ends::<Either<F::Null, AtLeastF0>, BLOCK>(near)
 }
 
-/// Like `write_rows`, for a whole block of a window without a byte of F0 or more (hexadecimal). Null
-/// characters become C0 80.
+/// Like `write_rows`, for a whole block of a window without a byte of F0 or more (hexadecimal).
+/// Null characters become C0 80.
 #[inline(always)]
 pub fn write_nulls<F: Flavor>(window: &[u8], at: usize, out: &mut [u8], end: usize) -> usize
     requires window { at + BLOCK_READ ≤ length window.now }

@@ -82,7 +82,7 @@ fn write_middle<F: Flavor>(
         // The last block follows the first one, so testing the string gains nothing.
         return start;
     }
-    // After these blocks come at least `ROW` bytes, so that their rows fit.
+    // At least `ROW` bytes follow these blocks, so that their rows fit.
     let followed = (text.len() - ROW) / BLOCK;
     let middle = middle_of::<F>(text, more, blocks);
     let end = write_middle_by::<F>(text, followed, middle, out, start);
@@ -93,7 +93,7 @@ fn write_middle<F: Flavor>(
     write_block::<F>(&text[at..at + BLOCK_READ], BLOCK, out, end)
 }
 
-/// Like `write_middle`, by a given strategy, for blocks that `ROW` bytes follow.
+/// Like `write_middle`, by a given strategy, for blocks that at least `ROW` bytes follow.
 #[inline(always)]
 fn write_middle_by<F: Flavor>(
     text: &[u8],
@@ -117,8 +117,8 @@ fn write_middle_by<F: Flavor>(
     }
 }
 
-/// Like `write_middle_by`. It is inlined for each strategy, so that the loop does not test which one
-/// it is.
+/// Like `write_middle_by`. It is inlined for each strategy, so that the loop does not test which
+/// one it is.
 #[inline(always)]
 fn write_each_block<F: Flavor>(
     text: &[u8],

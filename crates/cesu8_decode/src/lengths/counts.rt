@@ -8,24 +8,30 @@ ghost use Rattle.cesu8_decode.specs.DecodedOffsets.{total_saved, saved_between};
 
 use crate::lanes::masks::masks_of;
 use crate::lanes::padded::padded;
-use crate::strategy::is_one_block;
 use cesu8_bytes::BLOCK;
 use cesu8_bytes::flavor::Flavor;
 use cesu8_bytes::lanes::class::LANES;
 use cesu8_bytes::lanes::padded::padded_half;
 use std::simd::prelude::*;
 
-/// Returns what at most 64 bytes save. It is not inlined, since `lossy_len` calls it for short
-/// input and for the end of longer input.
+/// Returns what the bytes of at most one block save.
+#[inline(always)]
+#[tactic(auto, using(crate::proofs::decoder::MaskReturns::saved_with_zeros))]
+pub fn saved_in_block<F: Flavor>(bytes: &[u8]) -> usize
+    requires { length bytes.now ≤ BLOCK }
+    ensures { result ≡ total_saved F.flavor bytes.now }
+{
+    saved_by_lanes::<F, BLOCK>(padded_half(bytes), bytes.len())
+}
+
+/// Returns what at most 64 bytes save. It is not inlined, so that `lossy_len` saves fewer registers
+/// for at most one block.
 #[inline(never)]
 #[tactic(auto, using(crate::proofs::decoder::MaskReturns::saved_with_zeros))]
 pub fn saved_in_short<F: Flavor>(bytes: &[u8]) -> usize
     requires { length bytes.now ≤ LANES }
     ensures { result ≡ total_saved F.flavor bytes.now }
 {
-    if is_one_block(bytes) {
-        return saved_by_lanes::<F, BLOCK>(padded_half(bytes), bytes.len());
-    }
     saved_by_lanes::<F, LANES>(padded(bytes), bytes.len())
 }
 

@@ -7,11 +7,11 @@ use Rattle.cesu8_decode.proofs.decoder.MaskCounts.{saved_next_in_chunk, saved_in
 use Rattle.cesu8_decode.proofs.lengths.lossy_len.Goals as goal
 
 pub overflow_sub-result : goal.overflow_sub-result
-overflow_sub-result g c = omega (arith, c.saved_in_short.ensures, lossy_length_by_savings g.F.Flavor.flavor c.args.bytes.now)
+overflow_sub-result g c = omega (arith, c.saved_in_block.ensures, lossy_length_by_savings g.F.Flavor.flavor c.args.bytes.now)
 
-pub returns-then-are_short-clause-some : goal.returns-then-are_short-clause-some
-returns-then-are_short-clause-some g c =
-    omega (arith, c.saved_in_short.ensures, lossy_length_by_savings g.F.Flavor.flavor c.args.bytes.now)
+pub returns-then-is_one_block-clause-some : goal.returns-then-is_one_block-clause-some
+returns-then-is_one_block-clause-some g c =
+    omega (arith, c.saved_in_block.ensures, lossy_length_by_savings g.F.Flavor.flavor c.args.bytes.now)
 
 pub overflow_sub-len : goal.overflow_sub-len
 overflow_sub-len g c =
@@ -29,14 +29,14 @@ pub overflow_sub-len-2 : goal.overflow_sub-len-2
 overflow_sub-len-2 g c =
     let f = g.F.Flavor.flavor in
     let bytes = c.args.bytes.now in
-    let last = c.saved_in_short-2.ensures ∙ saved_in_rest f bytes c.loop-at.at in
+    let last = c.saved_in_short.ensures ∙ saved_in_rest f bytes c.loop-at.at in
     omega (arith, last, c.loop-at.invariant.1, lossy_length_by_savings f bytes)
 
 pub returns : goal.returns
 returns g c =
     let f = g.F.Flavor.flavor in
     let bytes = c.args.bytes.now in
-    let last = c.saved_in_short-2.ensures ∙ saved_in_rest f bytes c.loop-at.at in
+    let last = c.saved_in_short.ensures ∙ saved_in_rest f bytes c.loop-at.at in
     let given = length_given c.try_from.result _ _ c.try_from.ensures
     (omega (arith, last, c.loop-at.invariant.1, lossy_length_by_savings f bytes)) in
     rw c.ok.ensures.value (record { some = given.0; none = given.1 })
