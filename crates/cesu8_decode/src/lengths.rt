@@ -8,13 +8,15 @@ ghost use Rattle.cesu8_text.specs.Slices.{ReadsAtLength};
 
 mod counts;
 
+use crate::lanes::masks::STEP;
 use crate::needs_conversion::begins_changed;
 use crate::prefix::unchanged_prefix;
 use crate::strategy::is_one_block;
 use crate::valid::is_ill_formed;
 use cesu8_bytes::flavor::Flavor;
 use cesu8_bytes::lanes::class::LANES;
-use counts::{next_offsets, saved_by_lanes, saved_in_block};
+use counts::{saved_by_lanes, saved_in_block, saved_in_short};
+use std::simd::prelude::*;
 
 /// Returns the length of the strictly decoded text in bytes, or `None` if a byte is ill-formed. The
 /// unchanged prefix is as long in UTF-8, so only the bytes after it are counted.
@@ -46,10 +48,10 @@ pub fn lossy_len<F: Flavor>(bytes: &[u8]) -> Option<usize>
     }
     let mut len = 3 * bytes.len() as u128;
     let mut at = 0;
-    while at < bytes.len() {
-        let next = next_offsets::<F>(bytes, at);
-        len -= saved_by_lanes::<F, LANES>(next.lanes, next.counted, next.count) as u128;
-        at += next.count;
+    while bytes.len() - at > LANES {
+        len -= saved_by_lanes::<F, LANES>(u8x64::from_slice(&bytes[at..]), STEP) as u128;
+        at += STEP;
     }
+    len -= saved_in_short::<F>(&bytes[at..]) as u128;
     usize::try_from(len).ok()
 }

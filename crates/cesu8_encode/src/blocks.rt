@@ -8,7 +8,7 @@
 //! A block inside a string can be copied if no byte of it changes, nor one of the two before it. If
 //! only null characters change, no neighbour matters, and computing the lanes takes fewer steps.
 
-ghost use Rattle.std.specs.Prelude.{◌≡◌, List, Bool, ◌+◌, ◌*◌, ◌<◌, ◌≤◌, ◌++◌, length, take, IsTrue};
+ghost use Rattle.std.specs.Prelude.{◌≡◌, List, Bool, ◌+◌, ◌*◌, ◌-◌, ◌<◌, ◌≤◌, ◌++◌, length, take, count_ones, IsTrue};
 ghost use Rattle.std.specs.Simd.Lanes.{chunk, mask_l};
 ghost use Rattle.cesu8_text.specs.Class.{is_at_least_f0};
 ghost use Rattle.cesu8_bytes.specs.Kernels.{AnyIn};
@@ -33,15 +33,55 @@ pub const READ_AFTER: usize = 1;
 pub const BLOCK_READ: usize = READ_BEFORE + BLOCK + READ_AFTER;
 
 /// The bytes of a block that form a row.
-const ROW: usize = 8;
+pub const ROW: usize = 8;
 
 /// The bytes that are stored for the rows of a block. Its encoding has at most as many.
 pub const BLOCK_ENCODED: usize = 2 * BLOCK;
 
-/// Encodes the first `count` bytes of the block that begins `READ_BEFORE` bytes after `at`, and
-/// returns the end of what it wrote.
+/// Encodes the first `count` bytes of a window of one block, and returns the end of what it wrote.
 #[inline(always)]
-pub fn write_block<F: Flavor>(
+pub fn write_block<F: Flavor>(window: &[u8], count: usize, out: &mut [u8], end: usize) -> usize
+    requires window { BLOCK_READ ≤ length window.now }
+    requires count { count ≤ BLOCK }
+    requires room { end + length (encoded_bytes F.flavor window.now 0 count) ≤ length out.old }
+    ensures { WritesAt (encoded_bytes F.flavor window.now 0 count) end out.old out.new result }
+{
+    if BLOCK_ENCODED <= out.len() - end {
+        return write_rows_by_call::<F>(window, count, out, end);
+    }
+    write_by_array::<F>(window, count, out, end)
+}
+
+/// Like `write_block`, if the rows may not fit: they are stored to an array, and copied from there.
+#[inline(never)]
+fn write_by_array<F: Flavor>(window: &[u8], count: usize, out: &mut [u8], end: usize) -> usize
+    requires window { BLOCK_READ ≤ length window.now }
+    requires count { count ≤ BLOCK }
+    requires room { end + length (encoded_bytes F.flavor window.now 0 count) ≤ length out.old }
+    ensures { WritesAt (encoded_bytes F.flavor window.now 0 count) end out.old out.new result }
+{
+    let mut stored = [0; BLOCK_ENCODED];
+    let len = write_rows_by_call::<F>(window, count, &mut stored, 0);
+    put(&stored[..len], out, end)
+}
+
+/// Like `write_rows`, for a window of one block. It is not inlined, since it has several callers.
+#[inline(never)]
+fn write_rows_by_call<F: Flavor>(window: &[u8], count: usize, out: &mut [u8], end: usize) -> usize
+    requires window { BLOCK_READ ≤ length window.now }
+    requires count { count ≤ BLOCK }
+    requires room { end + BLOCK_ENCODED ≤ length out.old }
+    ensures { WritesAt (encoded_bytes F.flavor window.now 0 count) end out.old out.new result }
+{
+    write_rows::<F>(window, 0, count, out, end)
+}
+
+/// Encodes the first `count` bytes of the block that begins `READ_BEFORE` bytes after `at`, and
+/// returns the end of what it wrote. The last row has at least `ROW` bytes, and its vector twice as
+/// many. So all rows fit if at least `ROW` bytes are written after the block, and what lies after
+/// its end is then overwritten.
+#[inline(always)]
+pub fn write_rows<F: Flavor>(
     window: &[u8],
     at: usize,
     count: usize,
@@ -50,27 +90,12 @@ pub fn write_block<F: Flavor>(
 ) -> usize
     requires window { at + BLOCK_READ ≤ length window.now }
     requires count { count ≤ BLOCK }
-    requires room { end + length (encoded_bytes F.flavor window.now at count) ≤ length out.old }
+    requires room { end + length (encoded_bytes F.flavor window.now at (BLOCK - ROW)) + 2 * ROW
+        ≤ length out.old }
     ensures { WritesAt (encoded_bytes F.flavor window.now at count) end out.old out.new result }
 {
     let block = encode_block::<F>(window, at);
-    write_lanes(&block, count, out, end)
-}
-
-/// Like `write_block`, for a window of one block. It is not inlined, since it has several callers.
-#[inline(never)]
-pub fn write_block_by_call<F: Flavor>(
-    window: &[u8],
-    count: usize,
-    out: &mut [u8],
-    end: usize,
-) -> usize
-    requires window { BLOCK_READ ≤ length window.now }
-    requires count { count ≤ BLOCK }
-    requires room { end + length (encoded_bytes F.flavor window.now 0 count) ≤ length out.old }
-    ensures { WritesAt (encoded_bytes F.flavor window.now 0 count) end out.old out.new result }
-{
-    write_block::<F>(window, 0, count, out, end)
+    store_block(&block, count, out, end)
 }
 
 /// Returns true only if the block is unchanged, whatever byte follows it.
@@ -84,13 +109,14 @@ pub fn is_unchanged<F: Flavor>(window: &[u8], at: usize) -> bool
     !any_in_ends::<Either<F::Null, AtLeastF0>, BLOCK>(near)
 }
 
-/// Encodes a block of a window without a byte of F0 or more (hexadecimal), and returns the end of
-/// what it wrote. Null characters become C0 80.
+/// Like `write_rows`, for a whole block of a window without a byte of F0 or more (hexadecimal).
+/// Null characters become C0 80.
 #[inline(always)]
-pub fn encode_nulls<F: Flavor>(window: &[u8], at: usize, out: &mut [u8], end: usize) -> usize
+pub fn write_nulls<F: Flavor>(window: &[u8], at: usize, out: &mut [u8], end: usize) -> usize
     requires window { at + BLOCK_READ ≤ length window.now }
     requires low { ¬ (AnyIn is_at_least_f0 window.now) }
-    requires room { end + length (encoded_bytes F.flavor window.now at BLOCK) ≤ length out.old }
+    requires room { end + length (encoded_bytes F.flavor window.now at (BLOCK - ROW)) + 2 * ROW
+        ≤ length out.old }
     ensures { WritesAt (encoded_bytes F.flavor window.now at BLOCK) end out.old out.new result }
 {
     let bytes = u8x32::from_slice(&window[at + READ_BEFORE..]);
@@ -99,7 +125,7 @@ pub fn encode_nulls<F: Flavor>(window: &[u8], at: usize, out: &mut [u8], end: us
         firsts: u8x32::splat(0xC0),
         doubled: bits::<F::Null, BLOCK>(bytes),
     };
-    write_lanes(&block, BLOCK, out, end)
+    store_block(&block, BLOCK, out, end)
 }
 
 /// What is written for the bytes of a block: for each byte its lane of `seconds`, preceded by its
@@ -150,31 +176,13 @@ fn store_row(lanes: u8x16, doubled: usize, out: &mut [u8], at: usize) -> usize
     ensures bytes { (ts : List Bool) → length ts ≡ ROW → doubled ≡ mask_l ts
         → take result out.new
         ≡ take at out.old ++ packed ts (chunk ROW ROW lanes) (chunk 0 ROW lanes) }
-    ensures end { (at ≤ result) × (result ≤ at + 2 * ROW) }
+    ensures end { result ≡ at + ROW + count_ones doubled }
+    ensures within { result ≤ at + 2 * ROW }
     ensures len { length out.new ≡ length out.old }
 {
     let packed = lanes.swizzle_dyn(u8x16::from_array(doubling_rows()[doubled]));
     packed.copy_to_slice(&mut out[at..]);
     at + ROW + doubled.count_ones() as usize
-}
-
-/// Writes what the lanes say for the first `count` bytes of a block, and returns its end.
-///
-/// If the four rows fit, they are stored whole, and the next block overwrites what lies after the
-/// end.
-#[inline(always)]
-fn write_lanes(block: &EncodedBlock, count: usize, out: &mut [u8], end: usize) -> usize
-    requires count { count ≤ BLOCK }
-    requires room { end + packed_len block.now.doubled count ≤ length out.old }
-    ensures { WritesLanes block.now.seconds block.now.firsts block.now.doubled
-        count end out.old out.new result }
-{
-    if BLOCK_ENCODED <= out.len() - end {
-        return store_block(block, count, out, end);
-    }
-    let mut stored = [0; BLOCK_ENCODED];
-    let len = store_block(block, count, &mut stored, 0);
-    put(&stored[..len], out, end)
 }
 
 // Expands to the row of eight bytes of a block: their lanes of `seconds`, and then their lanes of
@@ -189,7 +197,7 @@ macro_rules! row {
 #[inline(always)]
 fn store_block(block: &EncodedBlock, count: usize, out: &mut [u8], end: usize) -> usize
     requires count { count ≤ BLOCK }
-    requires room { end + BLOCK_ENCODED ≤ length out.old }
+    requires room { end + packed_len block.now.doubled (BLOCK - ROW) + 2 * ROW ≤ length out.old }
     ensures { WritesLanes block.now.seconds block.now.firsts block.now.doubled
         count end out.old out.new result }
 {

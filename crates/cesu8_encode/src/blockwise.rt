@@ -8,10 +8,11 @@ ghost use Rattle.std.specs.Str.{chars};
 ghost use Rattle.cesu8_text.specs.Encoding.{encoding};
 ghost use Rattle.cesu8_encode.specs.Encoded.{WritesEncoding};
 ghost use Rattle.cesu8_encode.specs.EncodedOffsets.{recoded, IsWritten, Writes};
+ghost use Rattle.cesu8_encode.specs.Strategies.{FitsMiddle};
 
-use super::blocks::{BLOCK_READ, READ_AFTER, READ_BEFORE, write_block_by_call};
+use super::blocks::{BLOCK_READ, READ_AFTER, READ_BEFORE, ROW, write_block};
 use super::middle_blocks::write_middle_block;
-use super::strategy::{is_block, middle_of};
+use super::strategy::{Middle, is_block, middle_of};
 use cesu8_bytes::BLOCK;
 use cesu8_bytes::flavor::Flavor;
 use cesu8_bytes::lanes::short::copy_short;
@@ -30,7 +31,7 @@ pub fn write<F: Flavor>(text: &str, more: usize, out: &mut [u8]) -> usize
     let bytes = text.as_bytes();
     let mut window = [0; BLOCK_READ];
     copy_short(bytes, &mut window[READ_BEFORE..]);
-    write_block_by_call::<F>(&window, bytes.len(), out, 0)
+    write_block::<F>(&window, bytes.len(), out, 0)
 }
 
 /// Like `write`, for more than a block. `more` only decides which strategy encodes the blocks.
@@ -57,7 +58,7 @@ fn write_first_block<F: Flavor>(text: &[u8], out: &mut [u8]) -> usize
     let mut window = [0; BLOCK_READ];
     // Zeros stand for the bytes before the block.
     window[READ_BEFORE..].copy_from_slice(&text[..BLOCK + READ_AFTER]);
-    write_block_by_call::<F>(&window, BLOCK, out, 0)
+    write_block::<F>(&window, BLOCK, out, 0)
 }
 
 /// Encodes the blocks between the first and the last, and returns the end of what it wrote. The
@@ -71,7 +72,8 @@ fn write_middle<F: Flavor>(
     out: &mut [u8],
     start: usize,
 ) -> usize
-    requires blocks { (0 < blocks) × (BLOCK * blocks < length text.now) }
+    requires blocks { (0 < blocks) × (BLOCK * blocks < length text.now)
+        × (length text.now ≤ BLOCK * blocks + BLOCK) }
     requires room { length (recoded F.flavor text.now) ≤ length out.old }
     requires first { IsWritten F.flavor text.now BLOCK out.old start }
     ensures { Writes F.flavor text.now (BLOCK * blocks) out.old out.new result }
@@ -80,7 +82,57 @@ fn write_middle<F: Flavor>(
         // The last block follows the first one, so testing the string gains nothing.
         return start;
     }
+    // At least `ROW` bytes follow these blocks, so that their rows fit.
+    let followed = (text.len() - ROW) / BLOCK;
     let middle = middle_of::<F>(text, more, blocks);
+    let end = write_middle_by::<F>(text, followed, middle, out, start);
+    if followed == blocks {
+        return end;
+    }
+    let at = BLOCK * followed - READ_BEFORE;
+    write_block::<F>(&text[at..at + BLOCK_READ], BLOCK, out, end)
+}
+
+/// Like `write_middle`, by a given strategy, for blocks that at least `ROW` bytes follow.
+#[inline(always)]
+fn write_middle_by<F: Flavor>(
+    text: &[u8],
+    blocks: usize,
+    middle: Middle,
+    out: &mut [u8],
+    start: usize,
+) -> usize
+    requires fits { FitsMiddle middle text.now }
+    requires blocks { (0 < blocks) × (BLOCK * blocks + ROW ≤ length text.now) }
+    requires room { length (recoded F.flavor text.now) ≤ length out.old }
+    requires first { IsWritten F.flavor text.now BLOCK out.old start }
+    ensures { Writes F.flavor text.now (BLOCK * blocks) out.old out.new result }
+{
+    match middle {
+        Middle::CopyUnchanged => {
+            write_each_block::<F>(text, blocks, Middle::CopyUnchanged, out, start)
+        }
+        Middle::NullChange => write_each_block::<F>(text, blocks, Middle::NullChange, out, start),
+        Middle::AnyChange => write_each_block::<F>(text, blocks, Middle::AnyChange, out, start),
+    }
+}
+
+/// Like `write_middle_by`. It is inlined for each strategy, so that the loop does not test which
+/// one it is.
+#[inline(always)]
+fn write_each_block<F: Flavor>(
+    text: &[u8],
+    blocks: usize,
+    middle: Middle,
+    out: &mut [u8],
+    start: usize,
+) -> usize
+    requires fits { FitsMiddle middle text.now }
+    requires blocks { (0 < blocks) × (BLOCK * blocks + ROW ≤ length text.now) }
+    requires room { length (recoded F.flavor text.now) ≤ length out.old }
+    requires first { IsWritten F.flavor text.now BLOCK out.old start }
+    ensures { Writes F.flavor text.now (BLOCK * blocks) out.old out.new result }
+{
     let mut end = start;
     for i in 1..blocks {
         end = write_middle_block::<F>(text, BLOCK * i - READ_BEFORE, middle, out, end);
@@ -100,5 +152,5 @@ fn write_last_block<F: Flavor>(text: &[u8], at: usize, out: &mut [u8], end: usiz
     // Zeros stand for the bytes after the block.
     let near = &text[at - READ_BEFORE..];
     window[..near.len()].copy_from_slice(near);
-    write_block_by_call::<F>(&window, text.len() - at, out, end)
+    write_block::<F>(&window, text.len() - at, out, end)
 }

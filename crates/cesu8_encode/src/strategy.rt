@@ -38,13 +38,13 @@
 //!
 //! Other thresholds are in `cesu8_bytes`: the widths of vectors, and those of `fast_paths`.
 
-ghost use Rattle.std.specs.Prelude.{◌≤◌, ◌↔◌, length, IsTrue};
+ghost use Rattle.std.specs.Prelude.{◌<◌, ◌≤◌, ◌↔◌, length, IsTrue};
 ghost use Rattle.cesu8_encode.specs.Strategies.{FitsMiddle};
 
 use cesu8_bytes::BLOCK;
 use cesu8_bytes::flavor::Flavor;
-use cesu8_bytes::lanes::class::AtLeastF0;
-use cesu8_bytes::lanes::search::any_in_bytes;
+use cesu8_bytes::lanes::class::{AtLeastF0, LANES};
+use cesu8_bytes::lanes::search::any_in_long;
 
 /// The longest string that is encoded to the stack before the length of its encoding is known.
 pub const ON_STACK: usize = 128;
@@ -81,13 +81,14 @@ pub enum Middle {
 /// `blocks` is the number of blocks before the last.
 #[inline(always)]
 pub fn middle_of<F: Flavor>(text: &[u8], more: usize, blocks: usize) -> Middle
+    requires { LANES < length text.now }
     ensures { FitsMiddle result text.now }
 {
     // One more, because some of the bytes belong to the first and the last block.
     if more <= 1 + blocks / 4 {
         return Middle::CopyUnchanged;
     }
-    if F::has_long_null() && !any_in_bytes::<AtLeastF0>(text) {
+    if F::has_long_null() && !any_in_long::<AtLeastF0>(text) {
         return Middle::NullChange;
     }
     if more < blocks - blocks / 4 {

@@ -42,7 +42,8 @@ fn encode_block_to_slice<F: Flavor>(text: &str, buf: &mut [u8]) -> Result<usize,
     ensures { PutsAnswer (encoding F.flavor (chars text.now)) result buf.old buf.new }
 {
     let mut written = [0; BLOCK_ENCODED];
-    let len = write::<F>(text, 0, &mut written);
+    // With this bound, which always holds, the compiler omits code to copy more than 64 bytes.
+    let len = write::<F>(text, 0, &mut written).min(BLOCK_ENCODED);
     copy_to_slice(&written[..len], buf)
 }
 

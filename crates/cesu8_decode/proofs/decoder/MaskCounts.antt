@@ -1,21 +1,18 @@
 -- How many bytes offsets save, by how many bits of each mask are set.
-use Rattle.std.proofs.Common.{◌≡◌, ℕ, zero, suc, ◌+◌, ◌-◌, ◌*◌, ◌/◌, ◌^◌, ◌<◌, ◌≤◌, Bool, cond, true, false, not, eqb, ⊎_elim, List, ◌++◌, map, drop, replicate, length, get_or, count_by, count_ones, refl, ap, sym, subst, ◌∙◌, arith, add-zero, zero-add, suc-add}
+use Rattle.std.proofs.Common.{◌≡◌, ℕ, zero, suc, ◌+◌, ◌-◌, ◌*◌, ◌≤◌, Bool, cond, true, false, not, eqb, List, ◌++◌, map, drop, take, replicate, length, get_or, count_by, count_ones, refl, ap, sym, ◌∙◌, arith, zero-add}
 use Rattle.std.specs.List.{range_with_len}
 use Rattle.std.proofs.lemmas.Bool.Decides.{nat_tests}
 use Rattle.std.proofs.lemmas.List.Sums.{sum_by-cons}
-use Rattle.std.proofs.lemmas.Bool.{cases_lt}
-use Rattle.std.proofs.lemmas.List.{get_or_past, get_or_append_left, get_or-append_right, get_or-replicate, length-replicate, length-drop, get_or-drop, drop-drop, drop_all}
-use Rattle.std.proofs.lemmas.List.FromFn.{length-range_with_len}
-use Rattle.std.proofs.lemmas.Simd.{get_or-chunk, length-chunk}
+use Rattle.std.proofs.lemmas.List.{get_or_past, get_or_append_left, get_or-append_right, get_or-replicate, length-replicate, length-drop, get_or-drop, drop-drop, take_all}
+use Rattle.std.proofs.lemmas.Simd.{get_or-chunk, ones-mask_l}
 use lib.Lanes.{mask_l, chunk}
 use Rattle.cesu8_text.specs.Encoding.{Flavor}
 use Rattle.cesu8_bytes.specs.Pairs.{null_at}
-use Rattle.cesu8_bytes.proofs.vectors.Counts.{bits_after}
 use Rattle.cesu8_decode.specs.DecodedOffsets.{one_at, two_at, three_at, pair_at, first_width_by, saved, saved_between, total_saved}
 use Rattle.cesu8_decode.specs.Masks.{AreMasks, is_other_at, is_two_at, is_three_at, is_pair_at, is_null_at}
 use Rattle.cesu8_decode.specs.declared.lanes.masks.Masks.{Masks}
 use Rattle.cesu8_decode.proofs.by_offset.WindowOffsets.{saved_agrees}
-use Rattle.cesu8_decode.proofs.by_offset.SavedTotals.{all_offsets, all_between, saved_by_parts}
+use Rattle.cesu8_decode.proofs.by_offset.SavedTotals.{all_offsets, saved_by_parts}
 use Rattle.cesu8_decode.proofs.decoder.MaskTests.{pair_width}
 
 -- ---- one offset
@@ -80,58 +77,38 @@ module _ (f : Flavor) (bytes : List ℕ) where
 
 -- ---- bits
 
-later_range : (a k n : ℕ) → drop k (range_with_len a (k + n)) ≡ range_with_len (a + k) n
-later_range a zero n = rw (add-zero a, zero-add n) refl
-later_range a (suc k) n =
-    let offset : a + 1 + k ≡ a + suc k = omega arith in
-    rw (suc-add k n) (later_range (a + 1) k n ∙ ap (λ i. range_with_len i n) offset)
+-- The number of bits of a mask is the number of offsets that pass.
+bits_count : (test : ℕ → Bool) (n mask : ℕ) → mask ≡ mask_l (map test (range_with_len 0 n)) →
+    count_ones mask ≡ count_by test (range_with_len 0 n)
+bits_count test n mask is = ap count_ones is ∙ ones-mask_l test (range_with_len 0 n)
 
--- The number of bits of a mask from bit k on is the number of offsets from there on that pass.
-bits_count : (test : ℕ → Bool) (k n mask : ℕ) → mask ≡ mask_l (map test (range_with_len 0 (k + n))) →
-    count_ones (mask / 2 ^ k) ≡ count_by test (range_with_len k n)
-bits_count test k n mask is =
-    let long = length-range_with_len 0 (k + n) in
-    bits_after test (range_with_len 0 (k + n)) k mask (omega arith) is
-    ∙ ap (count_by test) (later_range 0 k n ∙ ap (λ i. range_with_len i n) (zero-add k))
+-- What `saved_by_lanes` cites by `using`: the masks give what n offsets save.
+module _ (f : Flavor) (bytes : List ℕ) (n : ℕ) (masks : Masks) (are : AreMasks f bytes 0 n masks) where
+  sums : (count_ones masks.others ≤ n)
+      × (2 * (n - count_ones masks.others) + 4 * count_ones masks.twos + 6 * count_ones masks.threes + 14 * count_ones masks.pairs + 5 * count_ones masks.nulls
+      ≡ saved_between f bytes 0 n)
+      × (count_ones masks.others ≡ 0 → 2 * n ≡ saved_between f bytes 0 n)
+  sums =
+      let sums = saved_by_counts f bytes 0 n in
+      let others = bits_count (is_other_at f bytes) n masks.others are.others in
+      let twos = bits_count (is_two_at bytes) n masks.twos are.twos in
+      let threes = bits_count (is_three_at bytes) n masks.threes are.threes in
+      let pairs = bits_count (is_pair_at f bytes) n masks.pairs are.pairs in
+      let nulls = bits_count (is_null_at f bytes) n masks.nulls are.nulls in (
+        omega (arith, sums.2, others),
+        omega (arith, sums.0, sums.2, others, twos, threes, pairs, nulls),
+        λ none. omega (arith, sums.0, sums.1, others, none),
+      )
 
--- The masks give what n offsets save, after k others.
-pub saved_by_masks : (f : Flavor) (bytes : List ℕ) (k n : ℕ) (masks : Masks) → AreMasks f bytes 0 (k + n) masks →
-    let others = count_ones (masks.others / 2 ^ k) in
-    (others ≤ n)
-    × (2 * (n - others) + 4 * count_ones (masks.twos / 2 ^ k) + 6 * count_ones (masks.threes / 2 ^ k) + 14 * count_ones (masks.pairs / 2 ^ k)
-    + 5 * count_ones (masks.nulls / 2 ^ k) ≡ saved_between f bytes k n)
-    × (others ≡ 0 → 2 * n ≡ saved_between f bytes k n)
-saved_by_masks f bytes k n masks are =
-    let sums = saved_by_counts f bytes k n in
-    let others = bits_count (is_other_at f bytes) k n masks.others are.others in
-    let twos = bits_count (is_two_at bytes) k n masks.twos are.twos in
-    let threes = bits_count (is_three_at bytes) k n masks.threes are.threes in
-    let pairs = bits_count (is_pair_at f bytes) k n masks.pairs are.pairs in
-    let nulls = bits_count (is_null_at f bytes) k n masks.nulls are.nulls in (
-      omega (arith, sums.2, others),
-      omega (arith, sums.0, sums.2, others, twos, threes, pairs, nulls),
-      λ none. omega (arith, sums.0, sums.1, others, none),
-    )
-
--- The same as lemmas that `saved_by_lanes` cites by `using`.
-module _ (f : Flavor) (bytes : List ℕ) (k n : ℕ) (masks : Masks) (m : ℕ) (are : AreMasks f bytes 0 m masks) (all : m ≡ k + n) where
-  sums : (count_ones (masks.others / 2 ^ k) ≤ n)
-      × (2 * (n - count_ones (masks.others / 2 ^ k)) + 4 * count_ones (masks.twos / 2 ^ k) + 6 * count_ones (masks.threes / 2 ^ k) + 14 * count_ones (masks.pairs / 2 ^ k)
-      + 5 * count_ones (masks.nulls / 2 ^ k) ≡ saved_between f bytes k n)
-      × (count_ones (masks.others / 2 ^ k) ≡ 0 → 2 * n ≡ saved_between f bytes k n)
-  sums = saved_by_masks f bytes k n masks (subst (λ i. AreMasks f bytes 0 i masks) all are)
-
-  pub saved_if_others : saved_between f bytes k n
-      ≡ 2 * (n - count_ones (masks.others / 2 ^ k)) + 4 * count_ones (masks.twos / 2 ^ k) + 6 * count_ones (masks.threes / 2 ^ k) + 14 * count_ones (masks.pairs / 2 ^ k)
-      + 5 * count_ones (masks.nulls / 2 ^ k)
+  pub saved_if_others : saved_between f bytes 0 n
+      ≡ 2 * (n - count_ones masks.others) + 4 * count_ones masks.twos + 6 * count_ones masks.threes + 14 * count_ones masks.pairs + 5 * count_ones masks.nulls
   saved_if_others = sym sums.1
 
-  pub saved_if_none : count_ones (masks.others / 2 ^ k) ≡ 0 → saved_between f bytes k n ≡ 2 * n
+  pub saved_if_none : count_ones masks.others ≡ 0 → saved_between f bytes 0 n ≡ 2 * n
   saved_if_none none = sym (sums.2 none)
 
-pub others_within : (k : ℕ) (masks : Masks) (f : Flavor) (bytes : List ℕ) (m : ℕ) → AreMasks f bytes 0 m masks → k ≤ m → count_ones (masks.others / 2 ^ k) + k ≤ m
-others_within k masks f bytes m are small =
-    omega (arith, sums f bytes k (m - k) masks m are (omega arith))
+pub others_within : (masks : Masks) (f : Flavor) (bytes : List ℕ) (n : ℕ) → AreMasks f bytes 0 n masks → count_ones masks.others ≤ n
+others_within masks f bytes n are = (sums f bytes n masks are).0
 
 pub ruleset counts_of_masks = (saved_if_others, saved_if_none, others_within)
 
@@ -156,24 +133,6 @@ module _ (f : Flavor) (bytes : List ℕ) where
       saved_agrees f (chunk at 64 bytes) bytes 0 at n
       (λ k small. ap (λ i. get_or (chunk at 64 bytes) i 0) (zero-add k) ∙ get_or-chunk at 64 bytes k 0 (omega arith))
 
-  -- The last offsets of a vector of the last bytes save what these bytes save.
-  pub saved_in_last : (count : ℕ) → count ≤ 64 → 64 ≤ length bytes →
-      saved_between f (chunk (length bytes - 64) 64 bytes) (64 - count) count ≡ total_saved f (drop (length bytes - count) bytes)
-  saved_in_last count few many =
-      let from = length bytes - 64 in
-      let lanes = chunk from 64 bytes in
-      let long : length lanes ≡ 64 = length-chunk from 64 bytes (omega arith) in
-      let rest : length (drop (length bytes - count) bytes) ≡ count = omega (arith, length-drop (length bytes - count) bytes) in
-      saved_agrees f lanes bytes (64 - count) (length bytes - count) count (λ k small.
-      ⊎_elim (λ (inside : 64 - count + k < 64).
-      let place : from + (64 - count + k) ≡ length bytes - count + k = omega arith in
-      get_or-chunk from 64 bytes (64 - count + k) 0 inside ∙ ap (λ i. get_or bytes i 0) place)
-      (λ (past : 64 ≤ 64 - count + k).
-      get_or_past lanes (64 - count + k) 0 (omega arith) ∙ sym (get_or_past bytes (length bytes - count + k) 0 (omega arith)))
-      (cases_lt (64 - count + k) 64))
-      ∙ ap (saved_between f bytes (length bytes - count)) (sym rest)
-      ∙ all_between f bytes (drop (length bytes - count) bytes) (length bytes - count) (λ k. sym (get_or-drop (length bytes - count) bytes k 0))
-
   -- What is left saves what the next n offsets save, and what is left after them.
   pub saved_next : (at n : ℕ) → at + n ≤ length bytes →
       total_saved f (drop at bytes) ≡ saved_between f bytes at n + total_saved f (drop (at + n) bytes)
@@ -190,7 +149,6 @@ module _ (f : Flavor) (bytes : List ℕ) where
   saved_next_in_chunk at n few fits =
       omega (arith, saved_next at n fits, saved_in_chunk at n few)
 
-  -- After the last offset nothing is saved.
-  pub saved_past : (n : ℕ) → length bytes ≤ n → total_saved f (drop n bytes) ≡ 0
-  unfolding total_saved
-  saved_past n past = ap (total_saved f) (drop_all n bytes past)
+  -- What all bytes from an offset on save, as the code takes these bytes.
+  pub saved_in_rest : (at : ℕ) → total_saved f (take (length bytes - at) (drop at bytes)) ≡ total_saved f (drop at bytes)
+  saved_in_rest at = ap (total_saved f) (take_all (length bytes - at) (drop at bytes) (omega (arith, length-drop at bytes)))

@@ -1,13 +1,16 @@
 -- Packing eight bytes by a shuffle, and 32 bytes by four of them.
 use Rattle.std.proofs.lemmas.Bool.Decides.{nat_tests}
 use Rattle.std.proofs.lemmas.Grind.{common_steps}
-use Rattle.std.proofs.Common.{◌≡◌, ℕ, zero, suc, ◌+◌, ◌<◌, ◌≤◌, Bool, true, List, [], ◌∷◌, ◌++◌, map, length, take, drop, get_or, append_assoc, eqb, ltb, refl, sym, ◌∙◌, subst, arith, w8, count_ones, eqb-true, append-nil}
+use Rattle.std.proofs.Common.{◌≡◌, ℕ, zero, suc, ◌+◌, ◌<◌, ◌≤◌, Bool, true, List, [], ◌∷◌, ◌++◌, map, length, take, drop, get_or, append_assoc, eqb, ltb, refl, sym, ◌∙◌, subst, arith, w8, count_ones, eqb-true, append-nil, ◌/◌, ◌%◌, ◌^◌, ap, bit_and}
 use Rattle.std.specs.List.{range_with_len, list_all}
 use Rattle.std.proofs.lemmas.Bool.{agree_below_at, ltb-true}
 use Rattle.std.proofs.lemmas.List.Elements.{All-get_or}
 use Rattle.std.proofs.lemmas.List.Sums.{AllPass-from_list_all}
 use Rattle.std.proofs.lemmas.List.{length-map, length-drop, map-append, drop_all, drop-drop}
 use Rattle.std.proofs.lemmas.Simd.{swz_l, SwzOk, SwzOk-from_below, pick_l-range_with_len, ones-mask_l_cons, Each1-from_get_or}
+use Rattle.std.proofs.lemmas.Nat.{and_mask, mod-pow-add}
+use Rattle.std.proofs.Math.Nat.{div-div-eq-div-mul}
+use lib.Count.{ones_cat}
 use lib.Lanes.{mask_l, put_chunk, chunk, pick_l, Each1}
 use Rattle.cesu8_encode.specs.EncodedOffsets.{packed, kept_lanes, shuffle_of}
 use Rattle.cesu8_bytes.proofs.vectors.Rows.{lowest, shuffled, stored_prefix, lanes_of_first, lanes_of_second}
@@ -106,3 +109,13 @@ module _ (firsts seconds : List ℕ) (ts : List Bool) (f : length firsts ≡ 32)
   four_rows x0 x1 x2 x3 x4 e1 e2 e3 e4 =
       let last : packed (drop 32 ts) (drop 32 firsts) (drop 32 seconds) ≡ [] = rw (drop_all 32 ts (omega arith)) refl in
       grind (arith, append_assoc, append-nil, part 0 (omega arith), part 8 (omega arith), part 16 (omega arith), part 24 (omega arith), last)
+
+-- The bits of the first three rows are the first 24 bits.
+pub rows_count : (d : ℕ) →
+    count_ones (d % 2 ^ 24) ≡ count_ones (bit_and d 0xFF) + count_ones (bit_and (d / 2 ^ 8) 0xFF) + count_ones (bit_and (d / 2 ^ 16) 0xFF)
+rows_count d =
+    let first = ap count_ones (mod-pow-add d 16 8) ∙ ones_cat 8 (d / 2 ^ 8 % 2 ^ 16) (d % 2 ^ 8) (omega arith) in
+    let second = ap count_ones (mod-pow-add (d / 2 ^ 8) 8 8)
+    ∙ ones_cat 8 (d / 2 ^ 8 / 2 ^ 8 % 2 ^ 8) (d / 2 ^ 8 % 2 ^ 8) (omega arith) in
+    let third : d / 2 ^ 8 / 2 ^ 8 ≡ d / 2 ^ 16 = div-div-eq-div-mul d (2 ^ 8) (2 ^ 8) in
+    omega (arith, first, second, ap (λ m. count_ones (m % 2 ^ 8)) third, ap count_ones (and_mask d 8), ap count_ones (and_mask (d / 2 ^ 8) 8), ap count_ones (and_mask (d / 2 ^ 16) 8))

@@ -2,7 +2,7 @@
 -- ends.
 use Rattle.std.proofs.lemmas.Bool.Decides.{nat_tests}
 use Rattle.std.proofs.lemmas.Grind.{common_steps}
-use Rattle.std.proofs.Common.{◌≡◌, ℕ, zero, suc, ◌+◌, ◌-◌, ◌*◌, ◌%◌, ◌^◌, ◌<◌, ◌≤◌, Bool, cond, List, [], ◌∷◌, ◌++◌, map, refl, sym, ap, ◌∙◌, arith, length, take, drop, get_or, replicate, bit_and, length-append, append_assoc, count_ones}
+use Rattle.std.proofs.Common.{◌≡◌, ℕ, zero, suc, ◌+◌, ◌-◌, ◌*◌, ◌%◌, ◌^◌, ◌<◌, ◌≤◌, Bool, cond, List, [], ◌∷◌, ◌++◌, map, refl, sym, subst, ap, ◌∙◌, arith, length, take, drop, get_or, replicate, bit_and, length-append, append_assoc, count_ones, zero-add}
 use Rattle.std.specs.List.{flat_map, range_with_len}
 use Rattle.std.proofs.lemmas.List.{append-nil, get_or-drop, get_or-take, length-drop, length-take-le, take_all, take_at, take-take}
 use Rattle.std.proofs.lemmas.List.Concat.{flat_map-append}
@@ -10,7 +10,8 @@ use Rattle.std.proofs.lemmas.List.FromFn.{length-range_with_len, length-map-rang
 use Rattle.std.proofs.lemmas.Nat.{and_mask}
 use Rattle.std.proofs.Math.Nat.{mod-eq_of_lt}
 use lib.Pow.{pow_mono}
-use Rattle.std.proofs.lemmas.Simd.{ones-mask_l_cons}
+use Rattle.std.proofs.lemmas.Simd.{mask_l-lt, ones-mask_l_cons}
+use lib.Count.{ones-le}
 use lib.Lanes.{mask_l}
 use Rattle.std.specs.Str.{IsUtf8, chars}
 use Rattle.cesu8_text.specs.Encoding.{Flavor, encoding}
@@ -63,6 +64,13 @@ unfolding encoded_bytes
 length_offsets f window i n =
     length_written (is_doubled_at f window) (inserted_at f window) (changed_at f window) (range_with_len i n)
     ∙ ap (λ k. k + count_ones (mask_l (map (is_doubled_at f window) (range_with_len i n)))) (length-range_with_len i n)
+
+-- At most two bytes are written for each of n bytes.
+pub at_most_twice : (f : Flavor) (window : List ℕ) (i n : ℕ) → length (encoded_bytes f window i n) ≤ 2 * n
+at_most_twice f window i n =
+    let tests = map (is_doubled_at f window) (range_with_len i n) in
+    let few = ones-le n (mask_l tests) (subst (λ k. mask_l tests < 2 ^ k) (length-map-range_with_len (is_doubled_at f window) i n) (mask_l-lt tests)) in
+    omega (arith, length_offsets f window i n, few)
 
 -- Packing the lanes of a block gives what is written for its offsets.
 packed_block : (f : Flavor) (window : List ℕ) (i n : ℕ) →
@@ -150,6 +158,15 @@ encoded_bytes_last f text near i n le is =
     (λ k l. padded near (drop m (replicate 35 0)) (zeros_left 35 m) (0 + k))
     ∙ ap (λ window. encoded_bytes f window 0 n) is ∙ encoded_bytes_drop f text i n le
 
+-- A block inside the text: a window of the block, two bytes before it and one after it gives the
+-- same as the text.
+pub encoded_bytes_window : (f : Flavor) (text : List ℕ) (at n : ℕ) → n ≡ 35 →
+    encoded_bytes f (take n (drop at text)) 0 32 ≡ encoded_bytes f text at 32
+encoded_bytes_window f text at n all =
+    let window = take n (drop at text) in
+    encoded_bytes_agree f window text 0 at 32
+    (λ k l. ap (λ i. get_or window i 0) (zero-add k) ∙ get_or-take n (drop at text) k 0 (omega arith) ∙ get_or-drop at text k 0)
+
 -- What is written for n bytes and then for m fits if what is written for at least as many bytes
 -- does.
 pub room_for_parts : (f : Flavor) (window : List ℕ) (i n m whole : ℕ) → n + m ≤ whole →
@@ -180,3 +197,11 @@ module _ (f : Flavor) (text : List ℕ) where
   pub written_after : (i n end after : ℕ) (old out piece : List ℕ) → IsWritten f text i old end →
       take after out ≡ take end old ++ piece → piece ≡ encoded_bytes f around i n → after ≤ length out → IsWritten f text (i + n) out after
   written_after i n end after old out piece written is piece_is within = grind (arith, nat_tests, common_steps, encoded_bytes_append)
+
+  -- The rows of a block fit if at least eight bytes follow it.
+  pub rows_fit : (i end : ℕ) (out : List ℕ) → 2 ≤ i → i + 40 ≤ length text → IsWritten f text i out end →
+      length (recoded f text) ≤ length out → end + length (encoded_bytes f text (i - 2) 24) + 16 ≤ length out
+  rows_fit i end out le within written room =
+      let fits = room_after i 40 end out (encoded_bytes f text (i - 2) 40) (encoded_bytes_here i 40 le) within written room in
+      let parts = ap length (encoded_bytes_append f text (i - 2) 24 16) in
+      omega (arith, fits, parts, length-append (encoded_bytes f text (i - 2) 24) (encoded_bytes f text (i - 2 + 24) 16), length_offsets f text (i - 2 + 24) 16)

@@ -1,6 +1,6 @@
 -- Each row is packed by its eight bits of the mask, and four rows after one another are the packed
 -- block. The encoding of the first `count` bytes is a prefix of it, whose length is counted.
-use Rattle.std.proofs.Common.{rules, ◌++◌, ap, ◌∙◌, arith, map, take}
+use Rattle.std.proofs.Common.{rules, ◌≤◌, ◌++◌, ap, ◌∙◌, arith, length, map, take}
 use Rattle.std.specs.List.{range_with_len}
 use Rattle.std.proofs.lemmas.List.{length-take-le}
 use Rattle.std.proofs.lemmas.List.FromFn.{length-map-range_with_len}
@@ -8,9 +8,21 @@ use Rattle.std.proofs.lemmas.Simd.{length-chunk}
 use lib.Lanes.{chunk}
 use Rattle.cesu8_encode.specs.EncodedOffsets.{is_doubled_at}
 use Rattle.cesu8_bytes.proofs.vectors.Rows.{row_mask, first_mask}
-use Rattle.cesu8_encode.proofs.encoder.EncodedRows.{four_rows}
+use Rattle.cesu8_encode.proofs.encoder.EncodedRows.{four_rows, rows_count}
 use Rattle.cesu8_encode.proofs.encoder.EncodedWindows.{counted, prefix_long, prefix_of_block}
 use Rattle.cesu8_encode.proofs.blocks.store_block.Goals as goal
+
+pub store_row-at-requires-clause-room : goal.store_row-at-requires-clause-room
+store_row-at-requires-clause-room c = omega (arith, c.requires.room)
+
+pub store_row-at-requires-2-clause-room : goal.store_row-at-requires-2-clause-room
+store_row-at-requires-2-clause-room c = omega (arith, c.requires.room, rows_count c.args.block.now.doubled, c.store_row-at.ensures.end)
+
+pub store_row-at-requires-3-clause-room : goal.store_row-at-requires-3-clause-room
+store_row-at-requires-3-clause-room c = omega (arith, c.requires.room, rows_count c.args.block.now.doubled, c.store_row-at.ensures.end, c.store_row-at-2.ensures.end)
+
+pub store_row-requires-clause-room : goal.store_row-requires-clause-room
+store_row-requires-clause-room c = omega (arith, c.requires.room, rows_count c.args.block.now.doubled, c.store_row-at.ensures.end, c.store_row-at-2.ensures.end, c.store_row-at-3.ensures.end)
 
 pub returns : goal.returns
 returns c = record {
@@ -27,8 +39,9 @@ returns c = record {
       (c.store_row.ensures.bytes (chunk 24 8 tests) (length-chunk 24 8 tests (omega arith)) (row_mask 24 tests doubled (omega arith) lanes.doubled_is)) in
       let stored = rows ∙ ap (λ l. before ++ l) lanes.packed_to in
       let counted_is = counted c.args.count doubled c.requires.count in
+      let fits : c.store_row.result ≤ length c.store_row.new.out = omega (arith, c.requires.room, rows_count doubled, c.store_row-at.ensures.end, c.store_row-at-2.ensures.end, c.store_row-at-3.ensures.end) in
       prefix_of_block f window before c.store_row.new.out at c.args.count c.store_row.result _ c.requires.count
-      (omega arith) stored
+      fits stored
       (omega (arith, prefix_long f window at c.args.count _ c.requires.count lanes.doubled_is, length-take-le c.args.end c.args.out.now (omega arith)));
   end = omega (arith, counted c.args.count c.args.block.now.doubled c.requires.count);
   len = search rules;

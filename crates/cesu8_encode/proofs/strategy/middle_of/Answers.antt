@@ -2,5 +2,5 @@
 use Rattle.std.proofs.lemmas.Bool.{iff_false}
 use Rattle.cesu8_encode.proofs.strategy.middle_of.Goals as goal
 
-pub returns-then-not-any_in_bytes : goal.returns-then-not-any_in_bytes
-returns-then-not-any_in_bytes g c = iff_false c.any_in_bytes.ensures c.if-not-any_in_bytes.true
+pub returns-then-not-any_in_long : goal.returns-then-not-any_in_long
+returns-then-not-any_in_long g c = iff_false c.any_in_long.ensures c.if-not-any_in_long.true
