@@ -9,9 +9,8 @@ use Rattle.cesu8_text.specs.Encoding.{Flavor}
 use Rattle.cesu8_text.specs.Reading.{StandsAt, width}
 use Rattle.cesu8_text.specs.Laws.{NoneCrosses}
 use Rattle.cesu8_decode.specs.DecodedOffsets.{first_width, first_width_by, width_at, three_at, pair_at}
-use Rattle.cesu8_decode.proofs.by_offset.FirstWidths.{wide, width_of_first, width_fits}
+use Rattle.cesu8_decode.proofs.by_offset.WidthTests.{wide, width_of_first, width_fits, width_tells}
 use Rattle.cesu8_text.proofs.reading.Stretches.{no_overlap}
-use Rattle.cesu8_decode.proofs.by_offset.WidthTests.{width_tells}
 use Rattle.cesu8_decode.proofs.by_offset.WindowOffsets.{is_boundary_at, Follows, width_in, width_there}
 
 -- ---- the widths that there are
@@ -76,7 +75,7 @@ ends_before f window bytes p i follows before inside some =
     ⊎_elim (λ (begun : 0 < first_width f (drop p bytes)).
     let earlier = wide f (drop p bytes) begun in
     let later = wide f (drop i bytes) (omega (arith, width_in f window bytes 5 i follows inside)) in
-    let apart = no_overlap f bytes p i earlier.character later.character (earlier.rest, earlier.begins) (later.rest, later.begins) in
+    let apart = no_overlap f bytes p i earlier.character later.character (_, earlier.begins) (_, later.begins) in
     omega (arith, apart, earlier.wide))
     (λ (none : first_width f (drop p bytes) ≤ 0). omega arith)
     (cases_lt 0 (first_width f (drop p bytes)))

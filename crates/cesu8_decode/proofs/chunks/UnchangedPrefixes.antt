@@ -7,11 +7,10 @@ use Rattle.std.proofs.lemmas.Str.{IsUtf8-drop, IsCharBoundary-from_take}
 use Rattle.cesu8_text.specs.Class.{IsChangedByte, IsUnchangedUtf8}
 use Rattle.cesu8_text.specs.Encoding.{Flavor, IsEncodedOtherwise, NeedsEncoding}
 use Rattle.cesu8_text.specs.Reading.{BeginsWith, NoneBegins, HasNoStrictReading}
-use Rattle.cesu8_text.specs.Text.{IsText, utf8_of, utf8}
+use Rattle.cesu8_text.specs.Text.{IsScalarValue, IsText, utf8_of, utf8}
 use Rattle.cesu8_text.proofs.StdUtf8.{IsUtf8Of_chars, IsUtf8_utf8, chars_utf8}
-use Rattle.cesu8_text.proofs.text.Shapes.{Shape, one, two, three, pair, shape, utf8_of_one, utf8_of_pair}
-use Rattle.cesu8_text.proofs.encoding.Lengths.{Change, same, longer, change, not_otherwise}
-use Rattle.cesu8_text.proofs.encoding.NeedsEncoding.{encoding_same, needs_by_bytes, changed_by_four, four_from}
+use Rattle.cesu8_text.proofs.encoding.Lengths.{Change, same, longer, change}
+use Rattle.cesu8_text.proofs.encoding.NeedsEncoding.{encoding_same, needs_by_bytes}
 use Rattle.cesu8_text.proofs.encoding.Unique.{no_reading}
 use Rattle.cesu8_text.proofs.reading.Borrowing.{unchanged_reading}
 use Rattle.cesu8_bytes.specs.declared.strictness.Strictness.{Strictness}
@@ -52,12 +51,9 @@ whole_unchanged f bytes whole =
 -- ---- characters
 
 -- The UTF-8 of a character that needs conversion begins with a byte that does.
-first_changed : (f : Flavor) (c : ℕ) (rest : List ℕ) → Shape c → IsEncodedOtherwise f c → IsChangedByte f (get_or (utf8_of c ++ rest) 0 0)
-first_changed f c rest (one ascii) needs = grind (arith, nat_tests, utf8_of_one)
-first_changed f c rest (two x y digits) needs = absurd (not_otherwise f c (omega arith) (omega arith) needs)
-first_changed f c rest (three x y z digits) needs = absurd (not_otherwise f c (omega arith) (omega arith) needs)
-first_changed f c rest (pair w x y z digits) needs =
-    rw (utf8_of_pair c w x y z digits) (changed_by_four f _ (four_from (0xF0 + (w + 1) / 4) (omega arith) (omega arith)))
+first_changed : (f : Flavor) (c : ℕ) (rest : List ℕ) → IsScalarValue c → IsEncodedOtherwise f c → IsChangedByte f (get_or (utf8_of c ++ rest) 0 0)
+unfolding utf8_of
+first_changed f c rest scalar needs = grind (arith, nat_tests)
 
 -- ---- prefixes
 
@@ -82,7 +78,7 @@ module _ (f : Flavor) (bytes : List ℕ) (n : ℕ) (prefix : IsLongestPrefix Unc
       by_first : Change f c → IsChangedByte f (get_or (drop n bytes) 0 0)
       by_first (same stays encoded) =
           absurd (none_after Unchanged f bytes n prefix c (utf8 text) stays (record { scalar = is_text.0; bytes_are = sym are ∙ ap (λ bs. bs ++ utf8 text) (sym encoded) }))
-      by_first (longer needs _ _) = subst (λ bs. IsChangedByte f (get_or bs 0 0)) are (first_changed f c (utf8 text) (shape c is_text.0) needs)
+      by_first (longer needs _ _) = subst (λ bs. IsChangedByte f (get_or bs 0 0)) are (first_changed f c (utf8 text) is_text.0 needs)
 
   -- If all bytes are UTF-8, the bytes after the prefix begin with a byte that needs conversion.
   pub changed_after : n < length bytes → IsUtf8 bytes → IsChangedByte f (get_or bytes n 0)
