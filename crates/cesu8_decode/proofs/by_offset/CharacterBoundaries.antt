@@ -24,6 +24,12 @@ pub zero_width : (f : Flavor) (window : List ℕ) (i : ℕ) → get_or window i 
 unfolding first_width_by
 zero_width f window i null = grind (arith, nat_tests)
 
+-- Nor does one begin at the five zeros before some bytes.
+zeros_width : (f : Flavor) (bytes : List ℕ) (i : ℕ) → i < 5 → width_at f (0 ∷ 0 ∷ 0 ∷ 0 ∷ 0 ∷ bytes) i ≤ 1
+zeros_width f bytes i early =
+    let window = 0 ∷ 0 ∷ 0 ∷ 0 ∷ 0 ∷ bytes in
+    zero_width f window i (eqb-true _ _ (agree_below_at (λ i. eqb (get_or window i 0) 0) (λ _. true) 5 i refl early))
+
 -- ---- boundaries
 
 -- A character that begins at one of the five offsets before a boundary ends at or before it.
@@ -39,12 +45,7 @@ boundary_where f window i ends = grind (arith, nat_tests)
 -- The offset after five zeros is a boundary.
 pub boundary_of_zeros : (f : Flavor) (bytes : List ℕ) → is_boundary_at f (0 ∷ 0 ∷ 0 ∷ 0 ∷ 0 ∷ bytes) 0 ≡ true
 boundary_of_zeros f bytes =
-    let w : ℕ → ℕ = λ i. get_or (0 ∷ 0 ∷ 0 ∷ 0 ∷ 0 ∷ bytes) i 0 in
-    boundary_where f (0 ∷ 0 ∷ 0 ∷ 0 ∷ 0 ∷ bytes) 0 (λ s small. omega (
-      arith,
-      zero_width f (0 ∷ 0 ∷ 0 ∷ 0 ∷ 0 ∷ bytes) (0 + s)
-          (eqb-true _ _ (agree_below_at (λ s. eqb (w (0 + s)) 0) (λ _. true) 5 s refl small)),
-    ))
+    boundary_where f (0 ∷ 0 ∷ 0 ∷ 0 ∷ 0 ∷ bytes) 0 (λ s small. omega (arith, zeros_width f bytes (0 + s) (omega arith)))
 
 -- ---- boundaries in bytes
 
@@ -131,8 +132,7 @@ pub boundary_at_zero : (f : Flavor) (bytes : List ℕ) (i : ℕ) → get_or byte
 boundary_at_zero f bytes i null =
     let window = 0 ∷ 0 ∷ 0 ∷ 0 ∷ 0 ∷ bytes in
     boundary_where f window i (λ s small.
-    ⊎_elim (λ (early : i + s < 5).
-    omega (arith, zero_width f window (i + s) (eqb-true _ _ (agree_below_at (λ s. eqb (get_or window s 0) 0) (λ _. true) 5 (i + s) refl early))))
+    ⊎_elim (λ (early : i + s < 5). omega (arith, zeros_width f bytes (i + s) early))
     (λ (late : 5 ≤ i + s).
     let there : i + s ≡ i + s - 5 + 5 = omega arith in
     omega (arith, ends_by_zero f bytes (i + s - 5) i (omega arith) null, width_there f bytes (i + s - 5), ap (width_at f window) there))

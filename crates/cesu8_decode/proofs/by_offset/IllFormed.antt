@@ -1,5 +1,5 @@
 -- Bytes have a strict reading if and only if encoded characters cover all of them.
-use Rattle.std.proofs.Common.{◌≡◌, ℕ, ◌+◌, ◌-◌, ◌<◌, ◌≤◌, ◌⊎◌, ⊎_elim, true, false, List, [], ◌∷◌, ◌++◌, refl, sym, ap, ◌∙◌, subst, inl, inr, arith, length, take, drop, length-append, append_assoc, add-zero, zero-add, length-drop}
+use Rattle.std.proofs.Common.{◌≡◌, ℕ, ◌+◌, ◌-◌, ◌<◌, ◌≤◌, ◌⊎◌, ⊎_elim, true, false, List, [], ◌∷◌, ◌++◌, refl, sym, ap, subst, inl, inr, arith, length, take, drop, length-append, append_assoc, add-zero, zero-add, length-drop}
 use Rattle.std.proofs.lemmas.Bool.{cases_lt}
 use Rattle.std.proofs.lemmas.Bool.Decides.{nat_tests}
 use Rattle.std.proofs.lemmas.List.{drop-append-le, take-append-drop, length-take-le}
@@ -108,14 +108,13 @@ none_crosses_encoding f (d ∷ text) rest is_text =
 fault_not_covered : (f : Flavor) (text rest : List ℕ) → IsText text → NoneBegins f rest →
     IsCovered f (encoding f text ++ rest) (length (encoding f text)) → ⊥
 fault_not_covered f text rest is_text none_begins covered =
-    let prefix = encoding f text in
-    ⊎_elim (λ (before : covered.offset < length prefix).
-    omega (arith, covered.ends, none_crosses_encoding f text rest is_text covered.offset covered.character covered.stands before))
-    (λ (from : length prefix ≤ covered.offset).
-    let here : covered.offset ≡ length prefix + 0 = omega (arith, covered.begun) in
-    let begins = earlier f prefix rest 0 covered.character (subst (λ j. StandsAt f (prefix ++ rest) j covered.character) here covered.stands) in
-    none_begins covered.character begins.0 begins.1)
-    (cases_lt covered.offset (length prefix))
+    grind (
+      arith,
+      cases_lt covered.offset (length (encoding f text)),
+      none_crosses_encoding f text rest is_text covered.offset covered.character covered.stands,
+      earlier f (encoding f text) rest 0 covered.character,
+      none_begins covered.character,
+    )
 
 -- Bytes whose offsets are all covered are the encoding of their lossy reading.
 covered_read : (f : Flavor) (bytes : List ℕ) → ((i : ℕ) → i < length bytes → IsCovered f bytes i) → IsStrictReading f bytes (reading f bytes)
@@ -123,9 +122,8 @@ covered_read f bytes covered =
     ⊎_elim (λ whole. whole)
     (λ (fault : HasFault f bytes).
     let prefix = encoding f fault.before.text in
-    let bytes_are = fault.before.strict_reading refl in
-    let there = subst (λ bs. (i : ℕ) → i < length bs → IsCovered f bs i) bytes_are covered (length prefix) (omega (arith, length-append prefix fault.rest, fault.some)) in
-    absurd (fault_not_covered f fault.before.text fault.rest fault.before.scalars fault.none_begins there))
+    let there = covered (length prefix) (grind (arith, fault, length-append)) in
+    absurd (grind (arith, there, fault, fault_not_covered f fault.before.text fault.rest)))
     (whole_or_faulty f bytes)
 
 -- Bytes with an offset that is not covered have a fault.

@@ -15,19 +15,13 @@ use Rattle.cesu8_decode.proofs.by_offset.SavedTotals.{first_saves, replaced_save
 use Rattle.cesu8_text.proofs.reading.Cuttings.{by_reading}
 
 -- What a character saves and its UTF-8 together have three times the length of the character.
-record Saves (f : Flavor) (c : ℕ) (rest : List ℕ) : Type 0 where
-  pub some : ℕ
-  pub saves : total_saved f (encoding f (c ∷ []) ++ rest) ≡ some + total_saved f rest
-  pub fits : length (utf8_of c) + some ≡ 3 * width f c
+abbrev Saves : Flavor → ℕ → List ℕ → Type 0
+Saves f c rest = total_saved f (encoding f (c ∷ []) ++ rest) + length (utf8_of c) ≡ 3 * width f c + total_saved f rest
 
 -- This is so for a character whose UTF-8 has n bytes, by its length.
 by_lengths : (f : Flavor) (c b n : ℕ) (prefix rest : List ℕ) → IsScalarValue c → encoding f (c ∷ []) ≡ b ∷ prefix →
     length (utf8_of c) ≡ n → n + saved (length (b ∷ prefix)) b ≡ 3 * length (b ∷ prefix) → Saves f c rest
-by_lengths f c b n prefix rest scalar same in_utf8 fits = record {
-  some = saved (length (b ∷ prefix)) b;
-  saves = first_saves f c b prefix rest scalar same;
-  fits = rw (in_utf8, ap length same) fits;
-}
+by_lengths f c b n prefix rest scalar same in_utf8 fits = omega (arith, first_saves f c b prefix rest scalar same, ap length same, in_utf8, fits)
 
 character_saves : (f : Flavor) (c : ℕ) (rest : List ℕ) → IsScalarValue c → Shape c → Saves f c rest
 character_saves f c rest scalar (one ascii) =
@@ -49,8 +43,7 @@ unfolding lossy_length total_saved
 lossy_length_by_savings f bytes =
     by_reading f (λ bytes text. length (utf8 text) + total_saved f bytes ≡ 3 * length bytes) refl
     (λ c rest text scalar same.
-    let first = character_saves f c rest scalar (shape c scalar) in
-    omega (arith, same, first.saves, first.fits, length-append (utf8_of c) (utf8 text), length-append (encoding f (c ∷ [])) rest))
+    omega (arith, same, character_saves f c rest scalar (shape c scalar), length-append (utf8_of c) (utf8 text), length-append (encoding f (c ∷ [])) rest))
     (λ b rest text none same. omega (arith, same, replaced_saves f b rest none, length_utf8_replaced text)) bytes
 
 -- The length is returned if it fits `usize`.

@@ -15,7 +15,7 @@ use Rattle.std.proofs.lemmas.Bool.Decides.{nat_tests}
 use Rattle.std.proofs.lemmas.List.{get_or_past}
 use Rattle.cesu8_text.specs.Patterns.{IsContinuation}
 use Rattle.cesu8_bytes.specs.Pairs.{null_at, HasPair, second_third_fifth_sixth}
-use Rattle.cesu8_text.proofs.encoding.Patterns.{Pattern, pattern}
+use Rattle.cesu8_text.proofs.encoding.Patterns.{pattern}
 use Rattle.cesu8_text.proofs.encoding.Found.{BeginsInLengths, found_one, found_null, found_two, found_three, found_pair}
 
 -- ASCII is encoded as its byte, or as C0 80.
@@ -138,15 +138,10 @@ AllFail f a b d e g h =
     (one_at f a ≡ false) × (null_at f a b ≡ false) × (two_at a b ≡ false) × (three_at a b d ≡ false) × (pair_at a b d e g h ≡ false)
 
 -- If all tests fail, the bytes have no pattern of an encoded character, so the width is 0.
-no_pattern : (f : Flavor) (bytes : List ℕ) (c : ℕ) →
-    AllFail f (get_or bytes 0 0) (get_or bytes 1 0) (get_or bytes 2 0) (get_or bytes 3 0) (get_or bytes 4 0) (get_or bytes 5 0) →
-    Pattern f bytes c → ⊥
-no_pattern f bytes c fail h2 = grind (arith, nat_tests)
-
 none_found : (f : Flavor) (bytes : List ℕ) →
     AllFail f (get_or bytes 0 0) (get_or bytes 1 0) (get_or bytes 2 0) (get_or bytes 3 0) (get_or bytes 4 0) (get_or bytes 5 0) →
     first_width f bytes ≡ 0
-none_found f bytes fail = width_of_none f bytes (λ c rest begins. no_pattern f bytes c fail (pattern f bytes c rest begins))
+none_found f bytes fail = width_of_none f bytes (λ c rest begins. let found = pattern f bytes c rest begins in grind (arith, nat_tests, found))
 
 -- ---- prefixes
 

@@ -78,10 +78,7 @@ pair_in_prefix bytes prefix same has = (pair_by_prefix prefix bytes (λ i small.
 
 -- A character that needs conversion begins the bytes exactly if it begins the padded prefix.
 pub begins_in_prefix : (f : Flavor) (bytes prefix : List ℕ) → IsPrefixOf bytes prefix → BeginsChanged f bytes ↔ BeginsChanged f prefix
-begins_in_prefix f bytes prefix same = (
-  λ begins. grind (arith, pair_in_prefix),
-  λ begins. grind (arith, pair_by_prefix),
-)
+begins_in_prefix f bytes prefix same = grind (arith, pair_in_prefix bytes prefix same, pair_by_prefix bytes prefix same)
 
 -- If the UTF-8 of the character that begins the padded prefix is appended, that character is
 -- decoded.

@@ -22,13 +22,7 @@ use Rattle.cesu8_decode.proofs.chunks.Changed.{pair_utf8, pair_width}
 -- A character that begins in an encoding also begins there in longer bytes that start with this
 -- encoding.
 stands_in_more : (f : Flavor) (prefix more : List ℕ) (p c : ℕ) → p ≤ length prefix → StandsAt f prefix p c → StandsAt f (prefix ++ more) p c
-stands_in_more f prefix more p c inside stands = (
-  stands.0 ++ more,
-  record {
-    scalar = stands.1.scalar;
-    bytes_are = drop-append-le p prefix more inside ∙ ap (λ bs. bs ++ more) stands.1.bytes_are ∙ append_assoc (encoding f (c ∷ [])) stands.0 more;
-  },
-)
+stands_in_more f prefix more p c inside (rest, begins) = (rest ++ more, grind (arith, drop-append-le p prefix more inside, begins, append_assoc))
 
 module _ (f : Flavor) (bytes : List ℕ) (at : ℕ) (within : at ≤ length bytes) (here : is_boundary_at f (window_of bytes) at ≡ true)
     (text more : List ℕ) (is_text : IsText text) (rest_is : drop at bytes ≡ encoding f text ++ more) where

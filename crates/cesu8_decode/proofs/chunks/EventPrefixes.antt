@@ -39,17 +39,12 @@ module _ (s : CharacterSet) (f : Flavor) (bytes : List ℕ) (n : ℕ) (whole : A
       ¬ (Any (IsOutside s f) text) → (c : ℕ) × (rest : List ℕ) × (¬ (IsOutside s f c)) × BeginsWith f (drop n bytes) c rest
   begins_after k [] some fits is_text reads inside =
       absurd (omega (arith, some, ap length (sym (encoding_nil f) ∙ reads), length-take-le k (drop n bytes) fits))
-  begins_after k (c ∷ text) some fits is_text reads inside =
-      let back = drop k (drop n bytes) in (
-        c,
-        encoding f text ++ back,
-        λ outside. inside (any_here (IsOutside s f) c text outside),
-        record {
-          scalar = is_text.0;
-          bytes_are = sym (take-append-drop k (drop n bytes)) ∙ ap (λ bs. bs ++ back) (sym reads ∙ encoding_cons f c text)
-              ∙ append_assoc (encoding f (c ∷ [])) (encoding f text) back;
-        },
-      )
+  begins_after k (c ∷ text) some fits is_text reads inside = (
+    c,
+    encoding f text ++ drop k (drop n bytes),
+    λ outside. inside (any_here (IsOutside s f) c text outside),
+    grind (arith, reads, encoding_cons f c text, append_assoc, take-append-drop k (drop n bytes)),
+  )
 
   -- If no character of the set begins after the prefix, no prefix that is longer is whole.
   pub greatest_prefix : ((c : ℕ) (rest : List ℕ) → ¬ (IsOutside s f c) → ¬ (BeginsWith f (drop n bytes) c rest)) →
