@@ -24,7 +24,7 @@ pub zero_width : (f : Flavor) (window : List ℕ) (i : ℕ) → get_or window i 
 unfolding first_width_by
 zero_width f window i null = grind (arith, nat_tests)
 
--- Nor does one begin at the five zeros before some bytes.
+-- At the five zeros before some bytes no character of two bytes or more begins.
 zeros_width : (f : Flavor) (bytes : List ℕ) (i : ℕ) → i < 5 → width_at f (0 ∷ 0 ∷ 0 ∷ 0 ∷ 0 ∷ bytes) i ≤ 1
 zeros_width f bytes i early =
     let window = 0 ∷ 0 ∷ 0 ∷ 0 ∷ 0 ∷ bytes in

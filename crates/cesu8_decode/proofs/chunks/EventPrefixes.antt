@@ -116,6 +116,7 @@ module _ (f : Flavor) (bytes : List ℕ) (i c : ℕ) (rest : List ℕ) (begins :
       let inside : i < length bytes = omega (arith, long.some, long.fits, ap length begins.bytes_are, length-drop i bytes, length-append (encoding f (c ∷ [])) rest) in
       sym (width_there f bytes i) ∙ width_of_standing f (window_of bytes) bytes i c (follows_zeros bytes) inside (rest, begins)
 
+  -- The bytes from offset i on begin with C0 80 exactly if bytes i and i + 1 are C0 80.
   null_here : null_at f (get_or (drop i bytes) 0 0) (get_or (drop i bytes) 1 0) ≡ is_null_at f bytes i
   null_here =
       let first = get_or-drop i bytes 0 0 ∙ ap (λ k. get_or bytes k 0) (add-zero i) in

@@ -8,8 +8,8 @@ use Rattle.std.proofs.lemmas.Bool.Decides.{nat_tests}
 use Rattle.cesu8_text.specs.Class.{IsFour, IsNullFour}
 use Rattle.cesu8_bytes.proofs.words.contains_null_or_four.Goals as goal
 
--- If one of the bytes has a property by which it is 00 or at least F0, one of them is 00 or at least
--- F0.
+-- If some byte has a property, and each byte with this property is 00 or at least F0, some byte is
+-- 00 or at least F0.
 counts : (P : ℕ → Type 0) → ((byte : ℕ) → P byte → IsNullFour byte) → (bytes : List ℕ) → Any P bytes → Any IsNullFour bytes
 counts P is bytes (k, byte, inside, same, has) = (k, byte, inside, same, is byte has)
 
