@@ -10,9 +10,7 @@ pub mod SliceReadings
 pub mod Strings
 pub mod WholeBytes
 pub mod FirstBytes
-pub mod ByteClasses
 pub mod FollowingBytes
-pub mod EncodedFollow
 pub mod LongestPrefixes
 pub mod EventPrefixes
 pub mod MaskPrefixes

@@ -14,9 +14,8 @@ use Rattle.std.proofs.lemmas.Simd.{length-chunk, get_or-chunk, length-zip2, get_
 use lib.Count.{count_trailing_zeros}
 use lib.Lanes.{chunk, zip2, mask_l, top}
 use Rattle.cesu8_text.specs.Order.{utf16_rank}
-use Rattle.cesu8_text.specs.Text.{IsText, utf8, utf8_of}
+use Rattle.cesu8_text.specs.Text.{IsScalarValue, IsText, utf8, utf8_of}
 use Rattle.cesu8_text.proofs.StdUtf8.{IsUtf8Of_chars}
-use Rattle.cesu8_text.proofs.text.Shapes.{Shape, one, two, three, pair, shape, utf8_of_one, utf8_of_two, utf8_of_three, utf8_of_pair}
 
 -- If all bytes of a list are below 100 (hexadecimal), so are those of a word after a prefix.
 pub word_fits : (bytes prefix rest word : List ℕ) → ((i : ℕ) → Fits w8 (get_or bytes i 0)) → bytes ≡ prefix ++ rest → word ≡ take 8 rest →
@@ -110,17 +109,15 @@ pub same_further : (xs ys : List ℕ) (known at more : ℕ) → at ≤ known →
 same_further xs ys known at more covered same later i before = grind (arith, same i, later (i - at))
 
 -- The bytes of a character's UTF-8 are below F8 (hexadecimal).
-low_of : (c : ℕ) → Shape c → All (λ b. b < 0xF8) (utf8_of c)
-low_of c (one ascii) = rw (utf8_of_one c ascii) (search (arith, All-cons, All-nil))
-low_of c (two x y digits) = rw (utf8_of_two c x y digits) (search (arith, All-cons, All-nil))
-low_of c (three x y z digits) = rw (utf8_of_three c x y z digits) (search (arith, All-cons, All-nil))
-low_of c (pair w x y z digits) = rw (utf8_of_pair c w x y z digits) (search (arith, All-cons, All-nil))
+low_of : (c : ℕ) → IsScalarValue c → All (λ b. b < 0xF8) (utf8_of c)
+unfolding utf8_of
+low_of c scalar = grind (arith, nat_tests)
 
 -- The bytes of a text's UTF-8 are below F8.
 low_in : (text : List ℕ) → IsText text → All (λ b. b < 0xF8) (utf8 text)
 low_in [] is_text = All-nil (λ b. b < 0xF8)
 low_in (c ∷ text) is_text =
-    All-append (λ b. b < 0xF8) (utf8_of c) (utf8 text) (low_of c (shape c is_text.0)) (low_in text is_text.1)
+    All-append (λ b. b < 0xF8) (utf8_of c) (utf8 text) (low_of c is_text.0) (low_in text is_text.1)
 
 -- The bytes of a string in std are below F8.
 pub low_bytes : (bytes : List ℕ) → IsUtf8 bytes → (i : ℕ) → i < length bytes → get_or bytes i 0 < 0xF8

@@ -9,9 +9,8 @@ use Rattle.cesu8_text.specs.Encoding.{Flavor}
 use Rattle.cesu8_text.specs.Reading.{StandsAt, width}
 use Rattle.cesu8_text.specs.Laws.{NoneCrosses}
 use Rattle.cesu8_decode.specs.DecodedOffsets.{first_width, first_width_by, width_at, three_at, pair_at}
-use Rattle.cesu8_decode.proofs.by_offset.FirstWidths.{wide, width_of_first, width_fits}
+use Rattle.cesu8_decode.proofs.by_offset.WidthTests.{wide, width_of_first, width_fits, width_tells}
 use Rattle.cesu8_text.proofs.reading.Stretches.{no_overlap}
-use Rattle.cesu8_decode.proofs.by_offset.WidthTests.{width_tells}
 use Rattle.cesu8_decode.proofs.by_offset.WindowOffsets.{is_boundary_at, Follows, width_in, width_there}
 
 -- ---- the widths that there are
@@ -24,6 +23,12 @@ width_bounds f window i = (width_tells f _ _ _ _ _ _).0
 pub zero_width : (f : Flavor) (window : List ℕ) (i : ℕ) → get_or window i 0 ≡ 0 → width_at f window i ≤ 1
 unfolding first_width_by
 zero_width f window i null = grind (arith, nat_tests)
+
+-- At the five zeros before some bytes no character of two bytes or more begins.
+zeros_width : (f : Flavor) (bytes : List ℕ) (i : ℕ) → i < 5 → width_at f (0 ∷ 0 ∷ 0 ∷ 0 ∷ 0 ∷ bytes) i ≤ 1
+zeros_width f bytes i early =
+    let window = 0 ∷ 0 ∷ 0 ∷ 0 ∷ 0 ∷ bytes in
+    zero_width f window i (eqb-true _ _ (agree_below_at (λ i. eqb (get_or window i 0) 0) (λ _. true) 5 i refl early))
 
 -- ---- boundaries
 
@@ -40,12 +45,7 @@ boundary_where f window i ends = grind (arith, nat_tests)
 -- The offset after five zeros is a boundary.
 pub boundary_of_zeros : (f : Flavor) (bytes : List ℕ) → is_boundary_at f (0 ∷ 0 ∷ 0 ∷ 0 ∷ 0 ∷ bytes) 0 ≡ true
 boundary_of_zeros f bytes =
-    let w : ℕ → ℕ = λ i. get_or (0 ∷ 0 ∷ 0 ∷ 0 ∷ 0 ∷ bytes) i 0 in
-    boundary_where f (0 ∷ 0 ∷ 0 ∷ 0 ∷ 0 ∷ bytes) 0 (λ s small. omega (
-      arith,
-      zero_width f (0 ∷ 0 ∷ 0 ∷ 0 ∷ 0 ∷ bytes) (0 + s)
-          (eqb-true _ _ (agree_below_at (λ s. eqb (w (0 + s)) 0) (λ _. true) 5 s refl small)),
-    ))
+    boundary_where f (0 ∷ 0 ∷ 0 ∷ 0 ∷ 0 ∷ bytes) 0 (λ s small. omega (arith, zeros_width f bytes (0 + s) (omega arith)))
 
 -- ---- boundaries in bytes
 
@@ -76,7 +76,7 @@ ends_before f window bytes p i follows before inside some =
     ⊎_elim (λ (begun : 0 < first_width f (drop p bytes)).
     let earlier = wide f (drop p bytes) begun in
     let later = wide f (drop i bytes) (omega (arith, width_in f window bytes 5 i follows inside)) in
-    let apart = no_overlap f bytes p i earlier.character later.character (earlier.rest, earlier.begins) (later.rest, later.begins) in
+    let apart = no_overlap f bytes p i earlier.character later.character (_, earlier.begins) (_, later.begins) in
     omega (arith, apart, earlier.wide))
     (λ (none : first_width f (drop p bytes) ≤ 0). omega arith)
     (cases_lt 0 (first_width f (drop p bytes)))
@@ -132,8 +132,7 @@ pub boundary_at_zero : (f : Flavor) (bytes : List ℕ) (i : ℕ) → get_or byte
 boundary_at_zero f bytes i null =
     let window = 0 ∷ 0 ∷ 0 ∷ 0 ∷ 0 ∷ bytes in
     boundary_where f window i (λ s small.
-    ⊎_elim (λ (early : i + s < 5).
-    omega (arith, zero_width f window (i + s) (eqb-true _ _ (agree_below_at (λ s. eqb (get_or window s 0) 0) (λ _. true) 5 (i + s) refl early))))
+    ⊎_elim (λ (early : i + s < 5). omega (arith, zeros_width f bytes (i + s) early))
     (λ (late : 5 ≤ i + s).
     let there : i + s ≡ i + s - 5 + 5 = omega arith in
     omega (arith, ends_by_zero f bytes (i + s - 5) i (omega arith) null, width_there f bytes (i + s - 5), ap (width_at f window) there))

@@ -1,12 +1,11 @@
 -- Bytes have a strict reading if and only if encoded characters cover all of them.
-use Rattle.std.proofs.Common.{◌≡◌, ℕ, ◌+◌, ◌-◌, ◌<◌, ◌≤◌, ◌⊎◌, ⊎_elim, true, false, List, [], ◌∷◌, ◌++◌, refl, sym, ap, ◌∙◌, subst, inl, inr, arith, length, take, drop, length-append, append_assoc, add-zero, zero-add, length-drop}
+use Rattle.std.proofs.Common.{◌≡◌, ℕ, ◌+◌, ◌-◌, ◌<◌, ◌≤◌, ◌⊎◌, ⊎_elim, true, false, List, [], ◌∷◌, ◌++◌, refl, sym, ap, subst, inl, inr, arith, length, take, drop, length-append, append_assoc, add-zero, zero-add, length-drop}
 use Rattle.std.proofs.lemmas.Bool.{cases_lt}
 use Rattle.std.proofs.lemmas.Bool.Decides.{nat_tests}
 use Rattle.std.proofs.lemmas.List.{drop-append-le, take-append-drop, length-take-le}
 use Rattle.cesu8_text.specs.Text.{IsScalarValue, IsText, utf8}
 use Rattle.cesu8_text.specs.Encoding.{Flavor, encoding}
 use Rattle.cesu8_text.specs.Reading.{BeginsWith, NoneBegins, StandsAt, width, reading, IsStrictReading}
-use Rattle.cesu8_text.specs.Cutting.{Piece, Character, Replaced, ArePieces, bytes_of, text_of, IsGreedy}
 use Rattle.cesu8_text.specs.Laws.{NoneCrosses}
 use Rattle.cesu8_decode.specs.DecodedOffsets.{width_at, ill_formed_by, is_ill_formed_at}
 use Rattle.cesu8_bytes.specs.TextChunks.{IsReadSoFar}
@@ -16,9 +15,8 @@ use Rattle.cesu8_text.proofs.encoding.Encodings.{encoding_nil, encoding_cons}
 use Rattle.cesu8_text.proofs.reading.EncodedTexts.{reading_text}
 use Rattle.cesu8_text.proofs.reading.Stretches.{later, earlier, none_crosses_character}
 use Rattle.cesu8_text.proofs.reading.Splits.{begins_in_prefix}
-use Rattle.cesu8_text.proofs.reading.Cuttings.{greedy_cutting}
-use Rattle.cesu8_text.proofs.reading.Greedy.{places}
-use Rattle.cesu8_decode.proofs.by_offset.FirstWidths.{wide}
+use Rattle.cesu8_text.proofs.reading.Cuttings.{by_reading}
+use Rattle.cesu8_decode.proofs.by_offset.WidthTests.{wide}
 use Rattle.cesu8_decode.proofs.by_offset.WindowOffsets.{is_boundary_at, Follows, width_in}
 use Rattle.cesu8_decode.proofs.by_offset.CharacterBoundaries.{width_bounds, boundary_ends, width_of_standing}
 
@@ -54,38 +52,26 @@ chunk_of_text f which bytes text rest is_text bytes_are = grind (arith, reading_
 fault_later : (f : Flavor) (c : ℕ) (bytes : List ℕ) → IsScalarValue c → HasFault f bytes → HasFault f (encoding f (c ∷ []) ++ bytes)
 fault_later f c bytes scalar fault =
     let text = c ∷ fault.before.text in
-    let bytes_are : encoding f (c ∷ []) ++ bytes ≡ encoding f text ++ fault.rest =
-    ap (λ bs. encoding f (c ∷ []) ++ bs) (fault.before.strict_reading refl)
-    ∙ sym (append_assoc (encoding f (c ∷ [])) (encoding f fault.before.text) fault.rest)
-    ∙ ap (λ bs. bs ++ fault.rest) (sym (encoding_cons f c fault.before.text)) in record {
+    let are = fault.before.strict_reading refl in
+    record {
       rest = fault.rest;
       chunk = utf8 text;
-      before = chunk_of_text f Strict (encoding f (c ∷ []) ++ bytes) text fault.rest (scalar, fault.before.scalars) bytes_are;
+      before = chunk_of_text f Strict _ text fault.rest (scalar, fault.before.scalars) (grind (arith, are, encoding_cons f c, append_assoc));
       some = fault.some;
       none_begins = fault.none_begins;
     }
 
--- Bytes are the encoding of the text of their pieces, or they have a fault.
-by_pieces : (f : Flavor) (pieces : List Piece) → ArePieces pieces → IsGreedy f pieces →
-    IsStrictReading f (bytes_of f pieces) (text_of pieces) ⊎ HasFault f (bytes_of f pieces)
-by_pieces f [] are_pieces is_greedy = inl (tt, encoding_nil f)
-by_pieces f (Character c ∷ pieces) are_pieces is_greedy = grind (arith, encoding_cons, fault_later, by_pieces f pieces are_pieces.1 is_greedy)
-by_pieces f (Replaced b ∷ pieces) are_pieces is_greedy =
-    let bytes = b ∷ bytes_of f pieces in
-    inr (record {
-      rest = bytes;
-      chunk = [];
-      before = chunk_of_text f Strict bytes [] bytes tt (ap (λ bs. bs ++ bytes) (sym (encoding_nil f)));
-      some = omega arith;
-      none_begins = is_greedy.0;
-    })
-
 -- Bytes are the encoding of their lossy reading, or they have a fault.
 pub whole_or_faulty : (f : Flavor) (bytes : List ℕ) → IsStrictReading f bytes (reading f bytes) ⊎ HasFault f bytes
-whole_or_faulty f bytes =
-    let cutting = greedy_cutting f bytes in
-    let text_is = places f bytes cutting.pieces cutting.cuts cutting.greedy in
-    grind (arith, by_pieces f cutting.pieces cutting.cuts.0 cutting.greedy)
+whole_or_faulty f =
+    by_reading f (λ bytes text. IsStrictReading f bytes text ⊎ HasFault f bytes) (inl (tt, encoding_nil f))
+    (λ c rest text scalar either. grind (arith, either, encoding_cons, fault_later)) (λ b rest text none _. inr (record {
+      rest = b ∷ rest;
+      chunk = [];
+      before = chunk_of_text f Strict (b ∷ rest) [] (b ∷ rest) tt (ap (λ bs. bs ++ b ∷ rest) (sym (encoding_nil f)));
+      some = omega arith;
+      none_begins = none;
+    }))
 
 -- ---- what is covered
 
@@ -122,14 +108,13 @@ none_crosses_encoding f (d ∷ text) rest is_text =
 fault_not_covered : (f : Flavor) (text rest : List ℕ) → IsText text → NoneBegins f rest →
     IsCovered f (encoding f text ++ rest) (length (encoding f text)) → ⊥
 fault_not_covered f text rest is_text none_begins covered =
-    let prefix = encoding f text in
-    ⊎_elim (λ (before : covered.offset < length prefix).
-    omega (arith, covered.ends, none_crosses_encoding f text rest is_text covered.offset covered.character covered.stands before))
-    (λ (from : length prefix ≤ covered.offset).
-    let here : covered.offset ≡ length prefix + 0 = omega (arith, covered.begun) in
-    let begins = earlier f prefix rest 0 covered.character (subst (λ j. StandsAt f (prefix ++ rest) j covered.character) here covered.stands) in
-    none_begins covered.character begins.0 begins.1)
-    (cases_lt covered.offset (length prefix))
+    grind (
+      arith,
+      cases_lt covered.offset (length (encoding f text)),
+      none_crosses_encoding f text rest is_text covered.offset covered.character covered.stands,
+      earlier f (encoding f text) rest 0 covered.character,
+      none_begins covered.character,
+    )
 
 -- Bytes whose offsets are all covered are the encoding of their lossy reading.
 covered_read : (f : Flavor) (bytes : List ℕ) → ((i : ℕ) → i < length bytes → IsCovered f bytes i) → IsStrictReading f bytes (reading f bytes)
@@ -137,9 +122,8 @@ covered_read f bytes covered =
     ⊎_elim (λ whole. whole)
     (λ (fault : HasFault f bytes).
     let prefix = encoding f fault.before.text in
-    let bytes_are = fault.before.strict_reading refl in
-    let there = subst (λ bs. (i : ℕ) → i < length bs → IsCovered f bs i) bytes_are covered (length prefix) (omega (arith, length-append prefix fault.rest, fault.some)) in
-    absurd (fault_not_covered f fault.before.text fault.rest fault.before.scalars fault.none_begins there))
+    let there = covered (length prefix) (grind (arith, fault, length-append)) in
+    absurd (grind (arith, there, fault, fault_not_covered f fault.before.text fault.rest)))
     (whole_or_faulty f bytes)
 
 -- Bytes with an offset that is not covered have a fault.
@@ -198,7 +182,7 @@ module _ (f : Flavor) (window bytes : List ℕ) (follows : Follows window bytes 
           let found = wide f (drop p bytes) (omega arith) in record {
             offset = p;
             character = found.character;
-            stands = (found.rest, found.begins);
+            stands = (_, found.begins);
             begun = omega arith;
             ends = omega (arith, found.wide);
           })

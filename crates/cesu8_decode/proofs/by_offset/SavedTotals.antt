@@ -7,7 +7,7 @@ use Rattle.cesu8_text.specs.Text.{IsScalarValue}
 use Rattle.cesu8_text.specs.Encoding.{Flavor, encoding}
 use Rattle.cesu8_text.specs.Reading.{NoneBegins}
 use Rattle.cesu8_decode.specs.DecodedOffsets.{first_width, saved, total_saved, saved_between}
-use Rattle.cesu8_decode.proofs.by_offset.FirstWidths.{encoded_widths, width_of_none}
+use Rattle.cesu8_decode.proofs.by_offset.WidthTests.{encoded_widths, width_of_none}
 use Rattle.cesu8_decode.proofs.by_offset.WindowOffsets.{Follows, follows_later, width_following, saved_split}
 
 module _ (f : Flavor) where

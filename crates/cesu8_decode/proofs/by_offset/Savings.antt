@@ -6,30 +6,22 @@ use Rattle.std.proofs.lemmas.Bool.{ne_eqb, cases_lt}
 use Rattle.cesu8_text.specs.Text.{IsScalarValue, utf8_of, utf8}
 use Rattle.cesu8_text.specs.Encoding.{Flavor, encoding}
 use Rattle.cesu8_text.specs.Reading.{width, lossy_length}
-use Rattle.cesu8_text.specs.Cutting.{Piece, Character, Replaced, ArePieces, bytes_of, text_of, IsGreedy}
 use Rattle.cesu8_decode.specs.DecodedOffsets.{saved, total_saved}
 use Rattle.cesu8_text.proofs.text.Shapes.{Shape, one, two, three, pair, shape, utf8_of_one, utf8_of_two, utf8_of_three, utf8_of_pair}
 use Rattle.cesu8_text.proofs.encoding.Forms.{encoding_two, encoding_three, encoding_pair}
 use Rattle.cesu8_text.proofs.reading.Decoding.{length_utf8_replaced}
-use Rattle.cesu8_decode.proofs.by_offset.FirstWidths.{ascii_forms}
+use Rattle.cesu8_decode.proofs.by_offset.WidthTests.{ascii_forms}
 use Rattle.cesu8_decode.proofs.by_offset.SavedTotals.{first_saves, replaced_saves}
-use Rattle.cesu8_text.proofs.reading.Cuttings.{greedy_cutting}
-use Rattle.cesu8_text.proofs.reading.Greedy.{places}
+use Rattle.cesu8_text.proofs.reading.Cuttings.{by_reading}
 
 -- What a character saves and its UTF-8 together have three times the length of the character.
-record Saves (f : Flavor) (c : ℕ) (rest : List ℕ) : Type 0 where
-  pub some : ℕ
-  pub saves : total_saved f (encoding f (c ∷ []) ++ rest) ≡ some + total_saved f rest
-  pub fits : length (utf8_of c) + some ≡ 3 * width f c
+abbrev Saves : Flavor → ℕ → List ℕ → Type 0
+Saves f c rest = total_saved f (encoding f (c ∷ []) ++ rest) + length (utf8_of c) ≡ 3 * width f c + total_saved f rest
 
 -- This is so for a character whose UTF-8 has n bytes, by its length.
 by_lengths : (f : Flavor) (c b n : ℕ) (prefix rest : List ℕ) → IsScalarValue c → encoding f (c ∷ []) ≡ b ∷ prefix →
     length (utf8_of c) ≡ n → n + saved (length (b ∷ prefix)) b ≡ 3 * length (b ∷ prefix) → Saves f c rest
-by_lengths f c b n prefix rest scalar same in_utf8 fits = record {
-  some = saved (length (b ∷ prefix)) b;
-  saves = first_saves f c b prefix rest scalar same;
-  fits = rw (in_utf8, ap length same) fits;
-}
+by_lengths f c b n prefix rest scalar same in_utf8 fits = omega (arith, first_saves f c b prefix rest scalar same, ap length same, in_utf8, fits)
 
 character_saves : (f : Flavor) (c : ℕ) (rest : List ℕ) → IsScalarValue c → Shape c → Saves f c rest
 character_saves f c rest scalar (one ascii) =
@@ -45,40 +37,14 @@ character_saves f c rest scalar (pair w x y z digits) =
     by_lengths f c 0xED 4 ((0xA0 + w) ∷ (0x80 + x) ∷ 0xED ∷ (0xB0 + y) ∷ (0x80 + z) ∷ []) rest scalar
     (encoding_pair f c w x y z digits) (ap length (utf8_of_pair c w x y z digits)) refl
 
-pieces_save : (f : Flavor) (pieces : List Piece) → ArePieces pieces → IsGreedy f pieces →
-    length (utf8 (text_of pieces)) + total_saved f (bytes_of f pieces) ≡ 3 * length (bytes_of f pieces)
-unfolding total_saved
-pieces_save f [] are_pieces is_greedy = refl
-pieces_save f (Character c ∷ pieces) are_pieces is_greedy =
-    let first = character_saves f c (bytes_of f pieces) are_pieces.0 (shape c are_pieces.0) in
-    omega (
-      arith,
-      first.saves,
-      first.fits,
-      pieces_save f pieces are_pieces.1 is_greedy,
-      length-append (utf8_of c) (utf8 (text_of pieces)),
-      length-append (encoding f (c ∷ [])) (bytes_of f pieces),
-    )
-pieces_save f (Replaced b ∷ pieces) are_pieces is_greedy =
-    omega (
-      arith,
-      replaced_saves f b (bytes_of f pieces) is_greedy.0,
-      pieces_save f pieces are_pieces.1 is_greedy.1,
-      length_utf8_replaced (text_of pieces),
-    )
-
 -- The length of the lossy reading is three times that of the bytes, less what all offsets save.
 pub lossy_length_by_savings : (f : Flavor) (bytes : List ℕ) → lossy_length f bytes + total_saved f bytes ≡ 3 * length bytes
-unfolding lossy_length
+unfolding lossy_length total_saved
 lossy_length_by_savings f bytes =
-    let cutting = greedy_cutting f bytes in
-    omega (
-      arith,
-      pieces_save f cutting.pieces cutting.cuts.0 cutting.greedy,
-      ap length cutting.cuts.1,
-      ap (total_saved f) cutting.cuts.1,
-      ap (λ text. length (utf8 text)) (places f bytes cutting.pieces cutting.cuts cutting.greedy),
-    )
+    by_reading f (λ bytes text. length (utf8 text) + total_saved f bytes ≡ 3 * length bytes) refl
+    (λ c rest text scalar same.
+    omega (arith, same, character_saves f c rest scalar (shape c scalar), length-append (utf8_of c) (utf8 text), length-append (encoding f (c ∷ [])) rest))
+    (λ b rest text none same. omega (arith, same, replaced_saves f b rest none, length_utf8_replaced text)) bytes
 
 -- The length is returned if it fits `usize`.
 pub length_given : {E : Type 0} (r : Result ℕ E) (n len : ℕ) → OkIff r (n < 2 ^ 64) n → n ≡ len →

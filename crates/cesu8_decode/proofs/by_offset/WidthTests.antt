@@ -1,21 +1,84 @@
--- The width of the character at the start of some bytes, 0 if there is none, is found by five tests
--- of the first six bytes: one for each form of an encoded character. a, b, d, e, g and h are these
--- bytes.
-use Rattle.std.proofs.lemmas.Bool.Decides.{nat_tests}
-use Rattle.std.proofs.Common.{◌≡◌, ℕ, ◌<◌, ◌≤◌, ◌⊎◌, ⊎_elim, Bool, cond, true, false, eqb, leb, ltb, List, [], ◌∷◌, ◌∙◌, arith, length, get_or}
-use Rattle.std.proofs.lemmas.Bool.{and_parts, and_from, eqb-true, leb-true, ltb-true, le-leb, lt-ltb, cases_lt}
-use Rattle.std.proofs.lemmas.List.{get_or_past}
-use Rattle.cesu8_text.specs.Encoding.{Flavor, Mutf8}
-use Rattle.cesu8_text.specs.Patterns.{IsContinuation}
+-- The width of the character at the start of some bytes, 0 if there is none. It is found by five
+-- tests of the first six bytes: one for each form of an encoded character. a, b, d, e, g and h are
+-- these bytes.
+use Rattle.std.proofs.Common.{◌≡◌, ℕ, ◌<◌, ◌≤◌, List, [], ◌∷◌, ◌++◌, Option, Some, None, ◌⊎◌, inl, refl, sym, ap, ◌∙◌, ⊎_elim, arith, drop, length, length-append, Bool, cond, true, false, eqb, leb, ltb, get_or}
+use Rattle.std.proofs.lemmas.Bool.{cases_lt, and_parts, and_from, eqb-true, leb-true, ltb-true, le-leb, lt-ltb}
+use Rattle.cesu8_text.specs.Text.{IsScalarValue}
+use Rattle.cesu8_text.specs.Encoding.{Flavor, Cesu8, Mutf8, encoding}
+use Rattle.cesu8_text.specs.Reading.{BeginsWith, NoneBegins, width, width_of, standing}
 use Rattle.cesu8_decode.specs.DecodedOffsets.{first_width, continues, one_at, two_at, three_at, pair_at, first_width_by, width_at, IsPrefixOf}
+use Rattle.cesu8_text.proofs.encoding.Forms.{encoding_one, short_form_null, short_form_other}
+use Rattle.cesu8_text.proofs.reading.Inside.{none_inside}
+use Rattle.cesu8_text.proofs.reading.Marks.{standing_is}
+use Rattle.cesu8_text.proofs.reading.Standing.{standing_begins}
+use Rattle.std.proofs.lemmas.Bool.Decides.{nat_tests}
+use Rattle.std.proofs.lemmas.List.{get_or_past}
+use Rattle.cesu8_text.specs.Patterns.{IsContinuation}
 use Rattle.cesu8_bytes.specs.Pairs.{null_at, HasPair, second_third_fifth_sixth}
-use Rattle.cesu8_text.proofs.encoding.Patterns.{Pattern, pattern}
+use Rattle.cesu8_text.proofs.encoding.Patterns.{pattern}
 use Rattle.cesu8_text.proofs.encoding.Found.{BeginsInLengths, found_one, found_null, found_two, found_three, found_pair}
-use Rattle.cesu8_decode.proofs.by_offset.FirstWidths.{width_of_first, width_of_none}
+
+-- ASCII is encoded as its byte, or as C0 80.
+pub ascii_forms : (f : Flavor) (c : ℕ) → c < 0x80 → (encoding f (c ∷ []) ≡ c ∷ []) ⊎ ((c ≡ 0) × (encoding f (c ∷ []) ≡ 0xC0 ∷ 0x80 ∷ []))
+ascii_forms Cesu8 c ascii = inl (encoding_one Cesu8 c ascii)
+ascii_forms Mutf8 c ascii = grind (arith, encoding_one, short_form_null, short_form_other)
+
+-- The encoding of a character, and whatever follows it, begins with this character.
+begins_encoded : (f : Flavor) (c : ℕ) (prefix rest : List ℕ) → IsScalarValue c → encoding f (c ∷ []) ≡ prefix →
+    BeginsWith f (prefix ++ rest) c rest
+begins_encoded f c prefix rest scalar same = record { scalar = scalar; bytes_are = ap (λ bs. bs ++ rest) (sym same) }
+
+-- The width of bytes is the width of the character that begins them.
+pub width_of_first : (f : Flavor) (bytes : List ℕ) (c : ℕ) (rest : List ℕ) → BeginsWith f bytes c rest → first_width f bytes ≡ width f c
+width_of_first f bytes c rest begins = ap (width_of f) (standing_is f bytes c rest begins)
+
+-- A character begins the bytes, and has their width.
+pub record IsWide (f : Flavor) (bytes : List ℕ) : Type 0 where
+  pub character : ℕ
+  pub begins : BeginsWith f bytes character (drop (first_width f bytes) bytes)
+  pub wide : first_width f bytes ≡ width f character
+
+-- By what `standing` finds: if the width of that is not 0, a character begins the bytes.
+wide_by : (f : Flavor) (bytes : List ℕ) (o : Option ℕ) → standing f bytes ≡ o → 0 < width_of f o → IsWide f bytes
+wide_by f bytes None found some = absurd (omega arith)
+wide_by f bytes (Some c) found some = record { character = c; begins = rw found (standing_begins f bytes c found); wide = ap (width_of f) found }
+
+-- If the width is not 0, a character begins the bytes.
+pub wide : (f : Flavor) (bytes : List ℕ) → 0 < first_width f bytes → IsWide f bytes
+wide f bytes some = wide_by f bytes (standing f bytes) refl some
+
+-- The width is at most the length of the bytes.
+pub width_fits : (f : Flavor) (bytes : List ℕ) → first_width f bytes ≤ length bytes
+width_fits f bytes =
+    ⊎_elim (λ some. let found = wide f bytes some in
+    omega (arith, found.wide, ap length found.begins.bytes_are, length-append (encoding f (found.character ∷ []))))
+    (λ (none : first_width f bytes ≤ 0). omega arith) (cases_lt 0 (first_width f bytes))
+
+-- If no character begins the bytes, the width is 0.
+pub width_of_none : (f : Flavor) (bytes : List ℕ) → NoneBegins f bytes → first_width f bytes ≡ 0
+width_of_none f bytes none_begins =
+    ⊎_elim (λ some. let found = wide f bytes some in absurd (none_begins found.character _ found.begins))
+    (λ (none : first_width f bytes ≤ 0). omega arith) (cases_lt 0 (first_width f bytes))
+
+-- No character begins inside a character.
+width_inside : (f : Flavor) (bytes : List ℕ) (c j : ℕ) (rest : List ℕ) → BeginsWith f bytes c rest → 0 < j → j < width f c →
+    first_width f (drop j bytes) ≡ 0
+width_inside f bytes c j rest begins later inside =
+    width_of_none f (drop j bytes) (λ d more other. none_inside f bytes c d j rest begins (more, other) later inside)
+
+-- The width at the first offset of an encoded character is its length, and at its other offsets it
+-- is 0.
+pub encoded_widths : (f : Flavor) (c b : ℕ) (prefix rest : List ℕ) → IsScalarValue c → encoding f (c ∷ []) ≡ b ∷ prefix →
+    (first_width f (b ∷ prefix ++ rest) ≡ length (b ∷ prefix)) × ((j : ℕ) → 0 < j → j ≤ length prefix → first_width f (drop j (b ∷ prefix ++ rest)) ≡ 0)
+encoded_widths f c b prefix rest scalar same =
+    let begins = begins_encoded f c (b ∷ prefix) rest scalar same in (
+      width_of_first f (b ∷ prefix ++ rest) c rest begins ∙ ap length same,
+      λ j later inside. width_inside f (b ∷ prefix ++ rest) c j rest begins later (omega (arith, ap length same)),
+    )
 
 -- If the byte at an offset is not 0, the bytes are longer than the offset: `get_or` is 0 after the
 -- end.
-long_by : (bytes : List ℕ) (i : ℕ) → 0 < get_or bytes i 0 → i < length bytes
+pub long_by : (bytes : List ℕ) (i : ℕ) → 0 < get_or bytes i 0 → i < length bytes
 long_by bytes i some = ⊎_elim (λ h. h) (λ past. absurd (omega (arith, get_or_past bytes i 0 past))) (cases_lt i (length bytes))
 
 -- A byte that passes the test `continues` is a continuation byte.
@@ -75,15 +138,10 @@ AllFail f a b d e g h =
     (one_at f a ≡ false) × (null_at f a b ≡ false) × (two_at a b ≡ false) × (three_at a b d ≡ false) × (pair_at a b d e g h ≡ false)
 
 -- If all tests fail, the bytes have no pattern of an encoded character, so the width is 0.
-no_pattern : (f : Flavor) (bytes : List ℕ) (c : ℕ) →
-    AllFail f (get_or bytes 0 0) (get_or bytes 1 0) (get_or bytes 2 0) (get_or bytes 3 0) (get_or bytes 4 0) (get_or bytes 5 0) →
-    Pattern f bytes c → ⊥
-no_pattern f bytes c fail h2 = grind (arith, nat_tests)
-
 none_found : (f : Flavor) (bytes : List ℕ) →
     AllFail f (get_or bytes 0 0) (get_or bytes 1 0) (get_or bytes 2 0) (get_or bytes 3 0) (get_or bytes 4 0) (get_or bytes 5 0) →
     first_width f bytes ≡ 0
-none_found f bytes fail = width_of_none f bytes (λ c rest begins. no_pattern f bytes c fail (pattern f bytes c rest begins))
+none_found f bytes fail = width_of_none f bytes (λ c rest begins. let found = pattern f bytes c rest begins in grind (arith, nat_tests, found))
 
 -- ---- prefixes
 

@@ -15,10 +15,7 @@ Agree a b i j n = (k : ℕ) → k < n → get_or a (i + k) 0 ≡ get_or b (j + k
 
 -- The windows also agree from later offsets on.
 pub agree_later : (a b : List ℕ) (i j n s m : ℕ) → s + m ≤ n → Agree a b i j n → Agree a b (i + s) (j + s) m
-agree_later a b i j n s m fits agree k small =
-    let here : i + s + k ≡ i + (s + k) = omega arith in
-    let there : j + s + k ≡ j + (s + k) = omega arith in
-    ap (λ p. get_or a p 0) here ∙ agree (s + k) (omega arith) ∙ ap (λ p. get_or b p 0) (sym there)
+agree_later a b i j n s m fits agree k small = grind (arith, agree (s + k))
 
 first_agrees : (a b : List ℕ) (i j n : ℕ) → 0 < n → Agree a b i j n → get_or a i 0 ≡ get_or b j 0
 first_agrees a b i j n some agree = ap (λ p. get_or a p 0) (sym (add-zero i)) ∙ agree 0 some ∙ ap (λ p. get_or b p 0) (add-zero j)

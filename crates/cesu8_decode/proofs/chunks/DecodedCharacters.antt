@@ -14,7 +14,7 @@ use Rattle.cesu8_bytes.specs.declared.strictness.Strictness.TheVariants.{Lossy}
 use Rattle.cesu8_decode.specs.DecodedOffsets.{first_width, window_of, width_at, decoded, is_ill_formed_at}
 use Rattle.cesu8_decode.proofs.by_offset.CharacterBoundaries.{boundary_ends, boundary_of_zeros, boundary_where}
 use Rattle.cesu8_decode.proofs.by_offset.DecodedText.{decoded_from_boundary}
-use Rattle.cesu8_decode.proofs.by_offset.FirstWidths.{IsWide, wide}
+use Rattle.cesu8_decode.proofs.by_offset.WidthTests.{IsWide, wide}
 use Rattle.cesu8_decode.proofs.by_offset.IllFormed.{IsCovered, chunk_of_text, encoding_covered, none_crosses_encoding, not_covered_where}
 use Rattle.cesu8_decode.proofs.by_offset.WindowOffsets.{is_boundary_at, follows_zeros, follows_later, width_in, decoded_split}
 use Rattle.cesu8_decode.proofs.chunks.Changed.{pair_utf8, pair_width}
@@ -22,13 +22,7 @@ use Rattle.cesu8_decode.proofs.chunks.Changed.{pair_utf8, pair_width}
 -- A character that begins in an encoding also begins there in longer bytes that start with this
 -- encoding.
 stands_in_more : (f : Flavor) (prefix more : List ℕ) (p c : ℕ) → p ≤ length prefix → StandsAt f prefix p c → StandsAt f (prefix ++ more) p c
-stands_in_more f prefix more p c inside stands = (
-  stands.0 ++ more,
-  record {
-    scalar = stands.1.scalar;
-    bytes_are = drop-append-le p prefix more inside ∙ ap (λ bs. bs ++ more) stands.1.bytes_are ∙ append_assoc (encoding f (c ∷ [])) stands.0 more;
-  },
-)
+stands_in_more f prefix more p c inside (rest, begins) = (rest ++ more, grind (arith, drop-append-le p prefix more inside, begins, append_assoc))
 
 module _ (f : Flavor) (bytes : List ℕ) (at : ℕ) (within : at ≤ length bytes) (here : is_boundary_at f (window_of bytes) at ≡ true)
     (text more : List ℕ) (is_text : IsText text) (rest_is : drop at bytes ≡ encoding f text ++ more) where
@@ -82,7 +76,7 @@ module _ (f : Flavor) (bytes : List ℕ) (at : ℕ) (within : at ≤ length byte
       by_character s p small place begun =
           let found = wide f (drop p rest) begun in
           let stands : StandsAt f (encoding f text ++ more) p found.character =
-          subst (λ bs. StandsAt f bs p found.character) rest_is (found.rest, found.begins) in
+          subst (λ bs. StandsAt f bs p found.character) rest_is (_, found.begins) in
           omega (arith, place, found.wide, none_crosses_encoding f text more is_text p found.character stands (omega arith))
 
       from_here : (s : ℕ) → s < 5 → 5 ≤ n + s → w (at + n + s) + s ≤ 5
@@ -138,18 +132,18 @@ module _ (f : Flavor) (bytes : List ℕ) (at : ℕ) (within : at ≤ length byte
   -- None of its bytes is ill-formed.
   pub pair_fine : (i : ℕ) → at ≤ i → i < at + 6 → is_ill_formed_at f (window_of bytes) i ≡ false
   pair_fine i low inside =
-      text_fine f bytes at within here text found.rest (found.begins.scalar, tt) found.begins.bytes_are i low (omega (arith, inside, size))
+      text_fine f bytes at within here text _ (found.begins.scalar, tt) found.begins.bytes_are i low (omega (arith, inside, size))
 
   -- No character crosses its end.
   pub boundary_after_pair : is_boundary_at f (window_of bytes) (at + 6) ≡ true
   boundary_after_pair =
       subst (λ m. is_boundary_at f (window_of bytes) (at + m) ≡ true) size
-      (boundary_after_text f bytes at within here text found.rest (found.begins.scalar, tt) found.begins.bytes_are)
+      (boundary_after_text f bytes at within here text _ (found.begins.scalar, tt) found.begins.bytes_are)
 
   -- What is written for it is its UTF-8.
   pub pair_decoded : (four : List ℕ) → IsUtf8OfDigits (second_third_fifth_sixth (drop at bytes)) four → decoded f (window_of bytes) at 6 ≡ four
   pair_decoded four is_utf8 =
       ap (decoded f (window_of bytes) at) (sym size)
-      ∙ text_decoded f bytes at within here text found.rest (found.begins.scalar, tt) found.begins.bytes_are
+      ∙ text_decoded f bytes at within here text _ (found.begins.scalar, tt) found.begins.bytes_are
       ∙ append-nil (utf8_of found.character)
-      ∙ sym (pair_utf8 f (drop at bytes) four found (shape found.character found.begins.scalar) six is_utf8)
+      ∙ sym (pair_utf8 f (drop at bytes) four found.character _ found.begins size (shape found.character found.begins.scalar) is_utf8)

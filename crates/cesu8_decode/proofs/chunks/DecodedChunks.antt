@@ -1,19 +1,17 @@
 -- What is written for a window of bytes is a chunk of their text, or an ill-formed byte in the
 -- window is a fault of the bytes.
-use Rattle.std.proofs.Common.{◌≡◌, ℕ, ◌+◌, ◌<◌, ◌≤◌, true, false, List, [], ◌∷◌, sym, ◌∙◌, subst, inr, arith, length, take, drop}
+use Rattle.std.proofs.Common.{◌≡◌, ℕ, ◌+◌, ◌<◌, ◌≤◌, true, false, List, ◌∷◌, sym, ◌∙◌, subst, arith, length, take, drop}
 use Rattle.std.specs.Prelude.{slice_index}
 use Rattle.std.proofs.lemmas.Bool.Decides.{nat_tests}
 use Rattle.std.proofs.lemmas.List.{take-append-drop}
-use Rattle.cesu8_text.specs.Text.{IsText, utf8}
+use Rattle.cesu8_text.specs.Text.{utf8}
 use Rattle.cesu8_text.specs.Encoding.{Flavor}
 use Rattle.cesu8_text.specs.Reading.{reading, IsStrictReading}
-use Rattle.cesu8_text.specs.Cutting.{Piece, Character, Replaced, ArePieces, text_of}
 use Rattle.cesu8_text.specs.Laws.{NoneCrosses}
 use Rattle.cesu8_bytes.specs.declared.strictness.Strictness.{Strictness}
 use Rattle.cesu8_bytes.specs.declared.strictness.Strictness.TheVariants.{Lossy}
 use Rattle.cesu8_decode.specs.DecodedOffsets.{decoded, is_ill_formed_at}
-use Rattle.cesu8_text.proofs.reading.Cuttings.{greedy_cutting}
-use Rattle.cesu8_text.proofs.reading.Greedy.{places}
+use Rattle.cesu8_text.proofs.reading.LossyTexts.{reading_is_text}
 use Rattle.cesu8_text.proofs.reading.Splits.{split}
 use Rattle.cesu8_decode.proofs.by_offset.WindowOffsets.{is_boundary_at, Agree, follows_zeros, boundary_agrees, ill_formed_agrees, decoded_agrees}
 use Rattle.cesu8_decode.proofs.by_offset.CharacterBoundaries.{boundary_of_zeros, none_crosses_boundary}
@@ -21,17 +19,6 @@ use Rattle.cesu8_decode.proofs.by_offset.IllFormed.{IsChunk, HasFault, chunk_of_
 use Rattle.cesu8_decode.proofs.by_offset.DecodedText.{IsPadded, decoded_between}
 
 -- ---- chunks
-
-scalar_pieces : (pieces : List Piece) → ArePieces pieces → IsText (text_of pieces)
-scalar_pieces [] are_pieces = tt
-scalar_pieces (Character c ∷ pieces) are_pieces = (are_pieces.0, scalar_pieces pieces are_pieces.1)
-scalar_pieces (Replaced b ∷ pieces) are_pieces = (inr (omega arith, omega arith), scalar_pieces pieces are_pieces.1)
-
--- The lossy reading is a text.
-reading_is_text : (f : Flavor) (bytes : List ℕ) → IsText (reading f bytes)
-reading_is_text f bytes =
-    let cutting = greedy_cutting f bytes in
-    subst IsText (places f bytes cutting.pieces cutting.cuts cutting.greedy) (scalar_pieces cutting.pieces cutting.cuts.0)
 
 -- The lossy reading of the bytes before a boundary is a chunk, in lossy decoding.
 first_chunk : (f : Flavor) (bytes : List ℕ) (n : ℕ) → NoneCrosses f (take n bytes) (drop n bytes) →

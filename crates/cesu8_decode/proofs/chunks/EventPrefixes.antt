@@ -6,33 +6,30 @@ use Rattle.std.proofs.lemmas.Bool.{cases_lt}
 use Rattle.std.proofs.lemmas.Bool.Decides.{nat_tests}
 use Rattle.std.proofs.lemmas.List.{length-take-le}
 use Rattle.std.specs.List.{Any}
-use Rattle.cesu8_text.specs.Encoding.{Flavor, Cesu8, Mutf8, encoding, IsEncodedOtherwise}
+use Rattle.cesu8_text.specs.Encoding.{Flavor, encoding, IsEncodedOtherwise}
 use Rattle.cesu8_text.specs.Laws.{NoneCrosses}
 use Rattle.cesu8_text.specs.Reading.{BeginsWith, NoneBegins, StandsAt, width, reading, IsStrictReading}
 use Rattle.cesu8_text.specs.Text.{IsText}
-use Rattle.cesu8_text.specs.Class.{is_null}
 use Rattle.cesu8_text.proofs.lists.Elements.{any_nil, any_here, any_right, any_cons}
 use Rattle.cesu8_text.proofs.encoding.Encodings.{encoding_nil, encoding_cons, encoding_append}
-use Rattle.cesu8_text.proofs.encoding.Forms.{encoding_one, encoding_two, encoding_three}
-use Rattle.cesu8_text.proofs.encoding.Lengths.{length_of_character}
-use Rattle.cesu8_text.proofs.encoding.Unique.{after_text}
+use Rattle.cesu8_text.proofs.encoding.Lengths.{change, length_of_character}
+use Rattle.cesu8_text.proofs.encoding.Unique.{after_text, same_character}
 use Rattle.cesu8_text.proofs.reading.Decoding.{IsText_append}
 use Rattle.cesu8_text.proofs.reading.KeptTexts.{strict_only}
 use Rattle.cesu8_text.proofs.reading.Stretches.{later}
-use Rattle.cesu8_text.proofs.text.Shapes.{Shape, one, two, three, pair, shape, IsPair}
 use Rattle.cesu8_bytes.specs.Pairs.{null_at}
 use Rattle.cesu8_decode.specs.DecodedOffsets.{BeginsChanged, first_width, first_width_by, window_of, width_at, is_ill_formed_at}
 use Rattle.cesu8_decode.specs.Following.{CharacterSet, Encoded, Unchanged}
 use Rattle.cesu8_decode.specs.Prefixes.{AreWhole, IsLongestPrefix, IsOutside, is_changed_at}
 use Rattle.cesu8_decode.specs.Masks.{is_null_at}
 use Rattle.cesu8_decode.proofs.by_offset.CharacterBoundaries.{boundary_of_zeros, width_of_standing, ends_before}
-use Rattle.cesu8_decode.proofs.by_offset.FirstWidths.{width_of_first, ascii_forms}
+use Rattle.cesu8_decode.proofs.by_offset.WidthTests.{width_of_first, pair_by_prefix}
 use Rattle.cesu8_decode.proofs.by_offset.IllFormed.{IsCovered, not_covered_where, read_before}
-use Rattle.cesu8_decode.proofs.by_offset.WidthTests.{pair_by_prefix}
 use Rattle.cesu8_decode.proofs.by_offset.WindowOffsets.{width_there, follows_zeros}
-use Rattle.cesu8_decode.proofs.chunks.Changed.{pair_width, null_lead}
+use Rattle.cesu8_decode.proofs.chunks.Changed.{null_begins, pair_width}
+use Rattle.cesu8_decode.proofs.chunks.Utf8Parts.{at_most_four}
 use Rattle.cesu8_decode.proofs.chunks.TextAfterPrefix.{otherwise_begins}
-use Rattle.cesu8_decode.proofs.chunks.WholeBytes.{null_otherwise, none_outside}
+use Rattle.cesu8_decode.proofs.chunks.WholeBytes.{none_outside}
 
 -- ---- a prefix of whole characters
 
@@ -42,17 +39,12 @@ module _ (s : CharacterSet) (f : Flavor) (bytes : List ℕ) (n : ℕ) (whole : A
       ¬ (Any (IsOutside s f) text) → (c : ℕ) × (rest : List ℕ) × (¬ (IsOutside s f c)) × BeginsWith f (drop n bytes) c rest
   begins_after k [] some fits is_text reads inside =
       absurd (omega (arith, some, ap length (sym (encoding_nil f) ∙ reads), length-take-le k (drop n bytes) fits))
-  begins_after k (c ∷ text) some fits is_text reads inside =
-      let back = drop k (drop n bytes) in (
-        c,
-        encoding f text ++ back,
-        λ outside. inside (any_here (IsOutside s f) c text outside),
-        record {
-          scalar = is_text.0;
-          bytes_are = sym (take-append-drop k (drop n bytes)) ∙ ap (λ bs. bs ++ back) (sym reads ∙ encoding_cons f c text)
-              ∙ append_assoc (encoding f (c ∷ [])) (encoding f text) back;
-        },
-      )
+  begins_after k (c ∷ text) some fits is_text reads inside = (
+    c,
+    encoding f text ++ drop k (drop n bytes),
+    λ outside. inside (any_here (IsOutside s f) c text outside),
+    grind (arith, reads, encoding_cons f c text, append_assoc, take-append-drop k (drop n bytes)),
+  )
 
   -- If no character of the set begins after the prefix, no prefix that is longer is whole.
   pub greatest_prefix : ((c : ℕ) (rest : List ℕ) → ¬ (IsOutside s f c) → ¬ (BeginsWith f (drop n bytes) c rest)) →
@@ -114,19 +106,6 @@ module _ (f : Flavor) (bytes : List ℕ) (n : ℕ) (fits : n ≤ length bytes) w
 
 -- ---- characters that need conversion
 
--- If the encoding of U+0000 is C0 80, the encoding is MUTF-8.
-long_null : (f : Flavor) (c : ℕ) → c ≡ 0 → encoding f (c ∷ []) ≡ 0xC0 ∷ 0x80 ∷ [] → is_null f c ≡ true
-long_null Cesu8 c null encoded = absurd (omega (arith, ap length (sym encoded ∙ encoding_one Cesu8 c (omega (arith, null)))))
-long_null Mutf8 c null encoded = grind (arith, null, nat_tests)
-
--- A character from 10000 (hexadecimal) on is encoded as a surrogate pair.
-high_otherwise : (f : Flavor) (c : ℕ) → 0x10000 ≤ c → IsEncodedOtherwise f c
-high_otherwise Cesu8 c high = high
-high_otherwise Mutf8 c high = inr high
-
-pair_high : (c w x y z : ℕ) → IsPair c w x y z → 0x10000 ≤ c
-pair_high c w x y z digits = omega (arith, digits.value)
-
 module _ (f : Flavor) (bytes : List ℕ) (i c : ℕ) (rest : List ℕ) (begins : BeginsWith f (drop i bytes) c rest) where
   width_here : first_width f (drop i bytes) ≡ width f c
   width_here = width_of_first f (drop i bytes) c rest begins
@@ -137,47 +116,35 @@ module _ (f : Flavor) (bytes : List ℕ) (i c : ℕ) (rest : List ℕ) (begins :
       let inside : i < length bytes = omega (arith, long.some, long.fits, ap length begins.bytes_are, length-drop i bytes, length-append (encoding f (c ∷ [])) rest) in
       sym (width_there f bytes i) ∙ width_of_standing f (window_of bytes) bytes i c (follows_zeros bytes) inside (rest, begins)
 
+  -- The bytes from offset i on begin with C0 80 exactly if bytes i and i + 1 are C0 80.
+  null_here : null_at f (get_or (drop i bytes) 0 0) (get_or (drop i bytes) 1 0) ≡ is_null_at f bytes i
+  null_here =
+      let first = get_or-drop i bytes 0 0 ∙ ap (λ k. get_or bytes k 0) (add-zero i) in
+      λ k. null_at f (first k) (get_or-drop i bytes 1 0 k)
+
   -- A character whose encoding is not its UTF-8 is marked by `is_changed_at`.
   pub otherwise_marked : IsEncodedOtherwise f c → is_changed_at f bytes i ≡ true
   otherwise_marked needs =
-      by_form (subst (BeginsChanged f) (sym begins.bytes_are) (otherwise_begins f c rest (shape c begins.scalar) needs))
+      by_form (subst (BeginsChanged f) (sym begins.bytes_are) (otherwise_begins f c rest begins.scalar needs))
     where
       by_form : BeginsChanged f (drop i bytes) → is_changed_at f bytes i ≡ true
       by_form (inl has) =
           let seen = pair_by_prefix (drop i bytes) (drop i bytes) (λ k small. refl) has in
           let six : width_at f bytes i ≡ 6 = wide_here ∙ sym width_here ∙ pair_width f (drop i bytes) seen.0 seen.1 in
           ap (λ w. eqb w 6 || is_null_at f bytes i) six
-      by_form (inr null) =
-          let second : get_or (drop i bytes) 1 0 ≡ get_or bytes (i + 1) 0 = get_or-drop i bytes 1 0 in
-          let first : get_or (drop i bytes) 0 0 ≡ get_or bytes i 0 = get_or-drop i bytes 0 0 ∙ ap (λ k. get_or bytes k 0) (add-zero i) in
-          let here : is_null_at f bytes i ≡ true = (λ k. null_at f (sym first k) (sym second k)) ∙ null in
-          grind (arith, here, nat_tests)
+      by_form (inr null) = let here = sym null_here ∙ null in grind (arith, here, nat_tests)
 
   -- A character that is marked has an encoding that is not its UTF-8.
   pub marked_otherwise : is_changed_at f bytes i ≡ true → IsEncodedOtherwise f c
-  marked_otherwise is_changed = by_shape (shape c begins.scalar)
+  marked_otherwise is_changed = ⊎_elim by_width by_null (grind (arith, is_changed, nat_tests))
     where
-      lead : (prefix : List ℕ) → encoding f (c ∷ []) ≡ prefix → get_or bytes i 0 ≡ get_or (prefix ++ rest) 0 0
-      lead prefix encoded =
-          ap (λ k. get_or bytes k 0) (sym (add-zero i)) ∙ sym (get_or-drop i bytes 0 0) ∙ ap (λ bs. get_or bs 0 0) (begins.bytes_are ∙ ap (λ bs. bs ++ rest) encoded)
+      by_width : width_at f bytes i ≡ 6 → IsEncodedOtherwise f c
+      by_width six = grind (arith, change f c begins.scalar, at_most_four c, wide_here)
 
-      marks : (width_at f bytes i ≡ 6) ⊎ (is_null_at f bytes i ≡ true)
-      marks = grind (arith, is_changed, nat_tests)
-
-      by_shape : Shape c → IsEncodedOtherwise f c
-      by_shape (one ascii) =
-          ⊎_elim (λ plain. absurd (⊎_elim (λ six. omega (arith, six, wide_here, ap length plain))
-          (λ null. omega (arith, ascii, lead _ plain, null_lead f (get_or bytes i 0) (get_or bytes (i + 1) 0) null)) marks))
-          (λ long. null_otherwise f c (long_null f c long.0 long.1)) (ascii_forms f c ascii)
-      by_shape (two x y digits) =
-          let encoded = encoding_two f c x y digits in
-          absurd (⊎_elim (λ six. omega (arith, six, wide_here, ap length encoded))
-          (λ null. omega (arith, digits.low, lead _ encoded, null_lead f (get_or bytes i 0) (get_or bytes (i + 1) 0) null)) marks)
-      by_shape (three x y z digits) =
-          let encoded = encoding_three f c x y z digits in
-          absurd (⊎_elim (λ six. omega (arith, six, wide_here, ap length encoded))
-          (λ null. omega (arith, lead _ encoded, null_lead f (get_or bytes i 0) (get_or bytes (i + 1) 0) null)) marks)
-      by_shape (pair w x y z digits) = high_otherwise f c (pair_high c w x y z digits)
+      by_null : is_null_at f bytes i ≡ true → IsEncodedOtherwise f c
+      by_null null =
+          let zero = (same_character f (drop i bytes) 0 c _ rest (null_begins f (drop i bytes) (null_here ∙ null)) begins).0 in
+          subst (IsEncodedOtherwise f) zero (grind arith)
 
 -- At an offset that is marked a character begins.
 changed_wide : (f : Flavor) (bytes : List ℕ) (i : ℕ) → is_changed_at f bytes i ≡ true → 0 < width_at f bytes i

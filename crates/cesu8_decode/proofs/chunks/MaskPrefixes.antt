@@ -1,6 +1,6 @@
 -- What the masks of at most 64 bytes say about their prefixes.
-use Rattle.std.proofs.Common.{◌≡◌, ℕ, ◌+◌, ◌<◌, ◌≤◌, ◌⊎◌, ⊎_elim, Bool, true, false, ltb, min, bit_or, zero-add, ◌&&◌, ◌||◌, List, sym, ap, ◌∙◌, subst, arith, length}
-use Rattle.std.proofs.lemmas.Bool.{cases_lt}
+use Rattle.std.proofs.Common.{◌≡◌, ℕ, ◌+◌, ◌<◌, ◌≤◌, ⊎_elim, Bool, true, false, ltb, min, bit_or, zero-add, ◌&&◌, ◌||◌, List, sym, ap, ◌∙◌, subst, arith, length}
+use Rattle.std.proofs.lemmas.Bool.{cases_lt, or_parts, or_cases}
 use Rattle.std.proofs.lemmas.Bool.Decides.{nat_tests}
 use Rattle.std.specs.Int.{trailing_zeros, bit_at, w64}
 use Rattle.std.specs.Int.Count.{trailing_of_zero}
@@ -92,14 +92,9 @@ module _ (f : Flavor) (bytes : List ℕ) (window : Window) (few : length bytes �
       let ill_at = is_ill_formed_at f (window_of bytes) in
       let events = either_marks ill_at (is_changed_at f bytes) (length bytes) of_ill changed_marks in
       let first = first_marked (λ i. ill_at i || is_changed_at f bytes i) (length bytes) (bit_or ill (bit_or pairs nulls)) few events m m_is in
-      unchanged_prefix f bytes m first.within (λ i early. (neither (ill_at i) (is_changed_at f bytes i) (first.before i early)).0)
-      (λ i early. (neither (ill_at i) (is_changed_at f bytes i) (first.before i early)).1) (λ more. some (ill_at m) (is_changed_at f bytes m) (first.there more))
-    where
-      neither : (p q : Bool) → (p || q) ≡ false → (p ≡ false) × (q ≡ false)
-      neither p q none = grind (arith, none, nat_tests)
-
-      some : (p q : Bool) → (p || q) ≡ true → (p ≡ true) ⊎ (q ≡ true)
-      some p q is = grind (arith, is, nat_tests)
+      let neither = λ (i : ℕ) (early : i < m). or_parts (ill_at i) (is_changed_at f bytes i) (first.before i early) in
+      unchanged_prefix f bytes m first.within (λ i early. (neither i early).0) (λ i early. (neither i early).1)
+      (λ more. or_cases (ill_at m) (is_changed_at f bytes m) (first.there more))
 
   -- If no byte is ill-formed, the masks mark the characters that need conversion.
   pub changes_by_masks : ill ≡ 0 → AreChanges f bytes (bit_or pairs nulls)

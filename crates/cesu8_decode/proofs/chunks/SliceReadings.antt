@@ -1,7 +1,6 @@
 -- What a call that writes a text to a caller's slice can promise.
 use Rattle.std.proofs.lemmas.Bool.Decides.{nat_tests}
 use Rattle.std.proofs.Common.{[], ◌≡◌, ℕ, ◌^◌, ◌<◌, ◌≤◌, ◌↔◌, List, refl, sym, ap, ◌∙◌, subst, arith, length, Result, Ok, Err, MatchResult, IsErr, IsErrAnd}
-use Rattle.std.proofs.lemmas.Bool.{false≢true}
 use Rattle.std.specs.Str.{chars}
 use Rattle.cesu8_text.specs.Text.{utf8}
 use Rattle.cesu8_text.specs.Encoding.{Flavor}
@@ -29,12 +28,7 @@ pub record IsOnlyText (IsReading : List ℕ → Type 0) (text answer : List ℕ)
   pub only : (other : List ℕ) → IsReading other → other ≡ text
   pub utf8_is : utf8 text ≡ answer
 
--- What is known of the length of the text is known of the length of the answer, and conversely.
-at_length : (IsReading : List ℕ → Type 0) (F : ℕ → Type 0) (text answer : List ℕ) → IsOnlyText IsReading text answer →
-    ReadsAtLength IsReading F → F (length answer)
-at_length IsReading F text answer is found =
-    subst (λ t. F (length t)) (ap utf8 (is.only found.0 found.1) ∙ is.utf8_is) found.2
-
+-- What is known of the length of the answer is known of the length of the text.
 pub of_length : (IsReading : List ℕ → Type 0) (F : ℕ → Type 0) (text answer : List ℕ) → IsOnlyText IsReading text answer →
     F (length answer) → ReadsAtLength IsReading F
 of_length IsReading F text answer is holds = (text, is.reads, subst (λ t. F (length t)) (sym is.utf8_is) holds)
@@ -92,6 +86,11 @@ module _ (which : Strictness) (IsReading : List ℕ → Type 0) (text answer buf
       PutsText which IsReading (Err (write_error.NoRoom no_room)) buf buf
   room_lacks no_room needed short = grind (arith, nat_tests)
 
+-- If the length of the answer does not fit `usize`, the answer fits no slice.
+length_exceeds : (IsReading : List ℕ → Type 0) (text answer buf : List ℕ) → IsOnlyText IsReading text answer → length buf < 2 ^ 64 →
+    2 ^ 64 ≤ length answer → PutsText Lossy IsReading (Err write_error.TooLong) buf buf
+length_exceeds IsReading text answer buf is small long = grind (arith, nat_tests)
+
 -- A copy of the answer to the slice keeps the promise: it succeeds, or reports that the slice is
 -- too short.
 text_put : (which : Strictness) (IsReading : List ℕ → Type 0) (text answer : List ℕ) (r : Result ℕ NoRoom) (returned : Result ℕ WriteError) (old new : List ℕ) →
@@ -122,21 +121,7 @@ pub length_lacks : (f : Flavor) (which : Strictness) (bytes buf : List ℕ) → 
     length bytes < 2 ^ 64 → length buf < 2 ^ 64 → 2 ^ 64 ≤ lossy_length f bytes → PutsText which (IsReadingOf f which bytes) (Err write_error.TooLong) buf buf
 unfolding lossy_length
 length_lacks f Strict bytes buf whole few small long = absurd (omega (arith, strict_no_longer f bytes (whole refl), few, long))
-length_lacks f Lossy bytes buf whole few small long =
-    let is = only_reading f Lossy bytes whole in
-    record {
-      written = tt;
-      fits = (
-        (λ ok. absurd (false≢true ok)),
-        (λ found. absurd (omega (arith, long, small, at_length _ (λ len. len ≤ length buf) _ _ is found))),
-      );
-      invalid = ((λ never. absurd never), (λ none. absurd (none _ is.reads)));
-      too_long = ((λ _. of_length _ (λ len. 2 ^ 64 ≤ len) _ _ is long), (λ _. tt));
-      needed = tt;
-      unchanged = refl;
-      strict = λ never. absurd never;
-      lossy = λ _. refl;
-    }
+length_lacks f Lossy bytes buf whole few small long = length_exceeds _ _ _ buf (only_reading f Lossy bytes whole) small long
 
 -- What is promised for one set of texts is promised for an equal one.
 pub same_reading : (P Q : List ℕ → Type 0) → ((text : List ℕ) → Q text ↔ P text) → (which : Strictness) (r : Result ℕ WriteError) (old new : List ℕ) →

@@ -1,15 +1,14 @@
 -- What bytes decode to after an unchanged prefix, for strict decoding, which goes on after it.
-use Rattle.std.proofs.Common.{◌≡◌, ℕ, ◌+◌, ◌^◌, ◌<◌, ◌≤◌, inl, inr, ⊎_elim, List, [], ◌∷◌, ◌++◌, refl, sym, ap, ◌∙◌, subst, arith, append_assoc, length, take, drop, length-drop, length-append, Ok, Err, Result, IsErr, Vec, vec_capacity}
+use Rattle.std.proofs.Common.{◌≡◌, ℕ, ◌+◌, ◌^◌, ◌<◌, ◌≤◌, ⊎_elim, List, [], ◌∷◌, ◌++◌, refl, sym, ap, ◌∙◌, subst, arith, append_assoc, length, take, drop, length-drop, length-append, Ok, Err, Result, IsErr, Vec, vec_capacity}
 use Rattle.std.proofs.lemmas.Bool.{cases_lt, false≢true}
 use Rattle.std.proofs.lemmas.Bool.Decides.{nat_tests}
 use Rattle.std.proofs.lemmas.List.{drop-drop, length-take-le}
-use Rattle.cesu8_text.specs.Encoding.{Flavor, Cesu8, Mutf8, encoding, IsEncodedOtherwise}
+use Rattle.cesu8_text.specs.Utf16.{units_of}
+use Rattle.cesu8_text.specs.Encoding.{Flavor, form, encoding, IsEncodedOtherwise}
 use Rattle.cesu8_text.specs.Reading.{BeginsWith, IsStrictReading, HasNoStrictReading}
-use Rattle.cesu8_text.specs.Text.{utf8}
-use Rattle.cesu8_text.proofs.text.Shapes.{Shape, one, two, three, pair, shape}
+use Rattle.cesu8_text.specs.Text.{IsScalarValue, utf8}
 use Rattle.cesu8_text.proofs.encoding.Encodings.{encoding_append}
-use Rattle.cesu8_text.proofs.encoding.Forms.{encoding_one, encoding_pair, short_form_null}
-use Rattle.cesu8_text.proofs.encoding.Lengths.{not_otherwise, length_bounds}
+use Rattle.cesu8_text.proofs.encoding.Lengths.{length_bounds}
 use Rattle.cesu8_text.proofs.encoding.Unique.{after_text}
 use Rattle.cesu8_text.proofs.reading.Decoding.{IsText_append, utf8_append}
 use Rattle.cesu8_text.proofs.reading.KeptTexts.{strict_only}
@@ -31,20 +30,15 @@ use Rattle.cesu8_decode.proofs.chunks.UnchangedPrefixes.{unchanged_prefix_chunk,
 -- ---- what begins bytes
 
 -- A character whose encoding is not its UTF-8 is a surrogate pair, or C0 80 in MUTF-8.
-pub otherwise_begins : (f : Flavor) (c : ℕ) (rest : List ℕ) → Shape c → IsEncodedOtherwise f c → BeginsChanged f (encoding f (c ∷ []) ++ rest)
-otherwise_begins Cesu8 c rest (one ascii) high = absurd (omega arith)
-otherwise_begins Mutf8 c rest (one ascii) (inl null) = rw (encoding_one Mutf8 c ascii, short_form_null c null) (inr refl)
-otherwise_begins Mutf8 c rest (one ascii) (inr high) = absurd (omega arith)
-otherwise_begins f c rest (two x y digits) needs = absurd (not_otherwise f c (omega arith) (omega arith) needs)
-otherwise_begins f c rest (three x y z digits) needs = absurd (not_otherwise f c (omega arith) (omega arith) needs)
-otherwise_begins f c rest (pair w x y z digits) needs =
-    rw (encoding_pair f c w x y z digits) (inl (grind arith))
+pub otherwise_begins : (f : Flavor) (c : ℕ) (rest : List ℕ) → IsScalarValue c → IsEncodedOtherwise f c → BeginsChanged f (encoding f (c ∷ []) ++ rest)
+unfolding encoding form units_of
+otherwise_begins f c rest scalar needs = grind (arith, nat_tests)
 
 -- If bytes begin with neither of these, no character whose encoding is not its UTF-8 begins them.
 none_otherwise : (f : Flavor) (bytes : List ℕ) → ¬ (BeginsChanged f bytes) → (c : ℕ) (rest : List ℕ) → IsEncodedOtherwise f c →
     ¬ (BeginsWith f bytes c rest)
 none_otherwise f bytes neither c rest needs begins =
-    neither (subst (BeginsChanged f) (sym begins.bytes_are) (otherwise_begins f c rest (shape c begins.scalar) needs))
+    neither (subst (BeginsChanged f) (sym begins.bytes_are) (otherwise_begins f c rest begins.scalar needs))
 
 -- ---- what is decoded after a chunk of text
 

@@ -1,5 +1,5 @@
 -- The unchanged prefix: UTF-8 in which nothing needs conversion, and what comes after it.
-use Rattle.std.proofs.Common.{◌≡◌, ℕ, ◌+◌, ◌/◌, ◌<◌, ◌↔◌, List, [], ◌∷◌, ◌++◌, refl, sym, ap, ◌∙◌, subst, arith, add-zero, length, get_or, take, drop, length-drop}
+use Rattle.std.proofs.Common.{◌≡◌, ℕ, ◌<◌, ◌↔◌, List, [], ◌∷◌, ◌++◌, refl, sym, ap, ◌∙◌, subst, arith, add-zero, length, get_or, take, drop, length-drop}
 use Rattle.std.specs.Str.{chars, IsUtf8}
 use Rattle.std.proofs.lemmas.Bool.Decides.{nat_tests}
 use Rattle.std.proofs.lemmas.List.{get_or-drop}
@@ -7,11 +7,10 @@ use Rattle.std.proofs.lemmas.Str.{IsUtf8-drop, IsCharBoundary-from_take}
 use Rattle.cesu8_text.specs.Class.{IsChangedByte, IsUnchangedUtf8}
 use Rattle.cesu8_text.specs.Encoding.{Flavor, IsEncodedOtherwise, NeedsEncoding}
 use Rattle.cesu8_text.specs.Reading.{BeginsWith, NoneBegins, HasNoStrictReading}
-use Rattle.cesu8_text.specs.Text.{IsText, utf8_of, utf8}
+use Rattle.cesu8_text.specs.Text.{IsScalarValue, IsText, utf8_of, utf8}
 use Rattle.cesu8_text.proofs.StdUtf8.{IsUtf8Of_chars, IsUtf8_utf8, chars_utf8}
-use Rattle.cesu8_text.proofs.text.Shapes.{Shape, one, two, three, pair, shape, utf8_of_one, utf8_of_pair}
-use Rattle.cesu8_text.proofs.encoding.Lengths.{Change, same, longer, change, not_otherwise}
-use Rattle.cesu8_text.proofs.encoding.NeedsEncoding.{encoding_same, needs_by_bytes, changed_by_four, four_from}
+use Rattle.cesu8_text.proofs.encoding.Lengths.{change}
+use Rattle.cesu8_text.proofs.encoding.NeedsEncoding.{encoding_same, needs_by_bytes}
 use Rattle.cesu8_text.proofs.encoding.Unique.{no_reading}
 use Rattle.cesu8_text.proofs.reading.Borrowing.{unchanged_reading}
 use Rattle.cesu8_bytes.specs.declared.strictness.Strictness.{Strictness}
@@ -52,12 +51,9 @@ whole_unchanged f bytes whole =
 -- ---- characters
 
 -- The UTF-8 of a character that needs conversion begins with a byte that does.
-first_changed : (f : Flavor) (c : ℕ) (rest : List ℕ) → Shape c → IsEncodedOtherwise f c → IsChangedByte f (get_or (utf8_of c ++ rest) 0 0)
-first_changed f c rest (one ascii) needs = grind (arith, nat_tests, utf8_of_one)
-first_changed f c rest (two x y digits) needs = absurd (not_otherwise f c (omega arith) (omega arith) needs)
-first_changed f c rest (three x y z digits) needs = absurd (not_otherwise f c (omega arith) (omega arith) needs)
-first_changed f c rest (pair w x y z digits) needs =
-    rw (utf8_of_pair c w x y z digits) (changed_by_four f _ (four_from (0xF0 + (w + 1) / 4) (omega arith) (omega arith)))
+first_changed : (f : Flavor) (c : ℕ) (rest : List ℕ) → IsScalarValue c → IsEncodedOtherwise f c → IsChangedByte f (get_or (utf8_of c ++ rest) 0 0)
+unfolding utf8_of
+first_changed f c rest scalar needs = grind (arith, nat_tests)
 
 -- ---- prefixes
 
@@ -77,12 +73,8 @@ module _ (f : Flavor) (bytes : List ℕ) (n : ℕ) (prefix : IsLongestPrefix Unc
   -- If the bytes after the prefix are the UTF-8 of a text, its first character needs conversion.
   by_text : (text : List ℕ) → IsText text → utf8 text ≡ drop n bytes → n < length bytes → IsChangedByte f (get_or (drop n bytes) 0 0)
   by_text [] is_text are more = absurd (omega (arith, ap length are, length-drop n bytes))
-  by_text (c ∷ text) is_text are more = by_first (change f c is_text.0)
-    where
-      by_first : Change f c → IsChangedByte f (get_or (drop n bytes) 0 0)
-      by_first (same stays encoded) =
-          absurd (none_after Unchanged f bytes n prefix c (utf8 text) stays (record { scalar = is_text.0; bytes_are = sym are ∙ ap (λ bs. bs ++ utf8 text) (sym encoded) }))
-      by_first (longer needs _ _) = subst (λ bs. IsChangedByte f (get_or bs 0 0)) are (first_changed f c (utf8 text) (shape c is_text.0) needs)
+  by_text (c ∷ text) is_text are more =
+      grind (arith, are, change f c is_text.0, none_after Unchanged f bytes n prefix c (utf8 text), first_changed f c (utf8 text) is_text.0)
 
   -- If all bytes are UTF-8, the bytes after the prefix begin with a byte that needs conversion.
   pub changed_after : n < length bytes → IsUtf8 bytes → IsChangedByte f (get_or bytes n 0)
@@ -99,12 +91,9 @@ module _ (f : Flavor) (bytes : List ℕ) (n : ℕ) (prefix : IsLongestPrefix Unc
   -- No unchanged character begins after the prefix. So if no character that needs conversion begins
   -- there, none does at all.
   module _ (no_change : (c : ℕ) (rest : List ℕ) → IsEncodedOtherwise f c → ¬ (BeginsWith f (drop n bytes) c rest)) where
-    by_change : (c : ℕ) (rest : List ℕ) → BeginsWith f (drop n bytes) c rest → Change f c → ⊥
-    by_change c rest begins (same stays _) = none_after Unchanged f bytes n prefix c rest stays begins
-    by_change c rest begins (longer needs _ _) = no_change c rest needs begins
-
     pub none_unless_changed : NoneBegins f (drop n bytes)
-    none_unless_changed c rest begins = by_change c rest begins (change f c begins.scalar)
+    none_unless_changed c rest begins =
+        grind (arith, change f c begins.scalar, begins, none_after Unchanged f bytes n prefix c rest, no_change c rest)
 
     -- If no character begins after the prefix, and bytes are left, there is no strict reading.
     pub no_strict_reading : n < length bytes → HasNoStrictReading f bytes

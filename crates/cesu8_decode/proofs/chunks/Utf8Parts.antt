@@ -41,7 +41,8 @@ after_utf8 bytes n within prefix =
 begins : (text : List ℕ) → IsText text → ¬ (IsContinuation (get_or (utf8 text) 0 0))
 begins text is_text continues = grind (arith, nat_tests, IsCharBoundary-start, IsUtf8_utf8, get_or_past)
 
-at_most_four : (c : ℕ) → length (utf8_of c) ≤ 4
+-- The UTF-8 of a character has at most four bytes.
+pub at_most_four : (c : ℕ) → length (utf8_of c) ≤ 4
 unfolding utf8_of
 at_most_four c = grind (arith, nat_tests)
 

@@ -1,5 +1,5 @@
 -- Bytes that are whole characters of a set.
-use Rattle.std.proofs.Common.{◌≡◌, ℕ, ◌⊎◌, inl, inr, List, [], ◌∷◌, ◌++◌, true, refl, sym, ◌∙◌, subst, ⊎_elim, arith, drop, true≢false}
+use Rattle.std.proofs.Common.{◌≡◌, ℕ, ◌⊎◌, List, [], ◌∷◌, ◌++◌, true, refl, sym, ◌∙◌, subst, ⊎_elim, arith, drop}
 use Rattle.std.specs.List.{Any}
 use Rattle.std.proofs.lemmas.Bool.Decides.{nat_tests}
 use Rattle.cesu8_text.specs.Class.{is_null}
@@ -8,9 +8,9 @@ use Rattle.cesu8_text.specs.Encoding.{Flavor, encoding, IsEncodedOtherwise}
 use Rattle.cesu8_text.proofs.lists.Elements.{any_nil, any_append, none_cons}
 use Rattle.cesu8_text.proofs.encoding.Encodings.{encoding_nil, encoding_append}
 use Rattle.cesu8_text.proofs.encoding.Found.{BeginsInLengths, rest_is}
-use Rattle.cesu8_text.proofs.encoding.Lengths.{Change, same, longer, change}
+use Rattle.cesu8_text.proofs.encoding.Lengths.{change}
 use Rattle.cesu8_text.proofs.reading.Decoding.{IsText_append}
-use Rattle.cesu8_decode.specs.Following.{CharacterSet, Encoded, Unchanged, has_changed}
+use Rattle.cesu8_decode.specs.Following.{CharacterSet, has_changed}
 use Rattle.cesu8_decode.specs.Prefixes.{AreWhole, IsOutside}
 
 -- ---- sets
@@ -58,19 +58,10 @@ begun_whole : (s : CharacterSet) (f : Flavor) (bytes rest : List ℕ) (c : ℕ) 
 begun_whole s f bytes rest c scalar inside are whole =
     subst (AreWhole s f) (sym are) (parts_whole s f (encoding f (c ∷ [])) rest (character_whole s f c scalar inside) whole)
 
-module _ (f : Flavor) (bytes : List ℕ) (m n : ℕ) (found : BeginsInLengths f bytes m n) where
-  -- If a character is as long in UTF-8, it is in each set.
-  same_whole : (s : CharacterSet) → m ≡ n → Change f found.character → AreWhole s f (drop m bytes) → AreWhole s f bytes
-  same_whole s as_long (longer _ more _) rest = absurd (omega (arith, as_long, more, found.encoded, found.in_utf8))
-  same_whole s as_long (same usual encoded) rest =
-      begun_whole s f bytes found.rest found.character found.begins.scalar (inside_each s f found.character usual) found.begins.bytes_are
-      (subst (AreWhole s f) (rest_is f bytes m n found) rest)
-
-  -- Bytes are whole characters if they begin with a character of the set and the rest is whole
-  -- characters.
-  pub whole_with : (s : CharacterSet) → (has_changed s ≡ true) ⊎ (m ≡ n) → AreWhole s f (drop m bytes) → AreWhole s f bytes
-  whole_with s (inr as_long) rest = same_whole s as_long (change f found.character found.begins.scalar) rest
-  whole_with Unchanged (inl meant) rest = absurd (true≢false (sym meant))
-  whole_with Encoded (inl meant) rest =
-      begun_whole Encoded f bytes found.rest found.character found.begins.scalar (λ none. none) found.begins.bytes_are
-      (subst (AreWhole Encoded f) (rest_is f bytes m n found) rest)
+-- Bytes are whole characters if they begin with a character of the set and the rest is whole
+-- characters. A character that is as long in UTF-8 is in each set.
+pub whole_with : (f : Flavor) (bytes : List ℕ) (m n : ℕ) → BeginsInLengths f bytes m n → (s : CharacterSet) → (has_changed s ≡ true) ⊎ (m ≡ n) →
+    AreWhole s f (drop m bytes) → AreWhole s f bytes
+whole_with f bytes m n found s either rest =
+    begun_whole s f bytes (drop m bytes) found.character found.begins.scalar (grind (arith, change f found.character found.begins.scalar, found, inside_each))
+    (rw (rest_is f bytes m n found) found.begins.bytes_are) rest

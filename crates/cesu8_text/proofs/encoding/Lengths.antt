@@ -15,10 +15,6 @@ pub data Change (f : Flavor) (c : ℕ) : Type 0 where
   longer : IsEncodedOtherwise f c → length (utf8_of c) < length (encoding f (c ∷ [])) →
       length (encoding f (c ∷ [])) ≤ 2 * length (utf8_of c) → Change f c
 
--- Scalar values between 0 and 10000 (hexadecimal), both excluded, are encoded as in UTF-8.
-pub not_otherwise : (f : Flavor) (c : ℕ) → 0 < c → c < 0x10000 → IsEncodedOtherwise f c → ⊥
-not_otherwise f c some low otherwise = grind arith
-
 -- Scalar values from 10000 (hexadecimal) on are encoded otherwise than in UTF-8.
 pub otherwise : (f : Flavor) (c : ℕ) → 0x10000 ≤ c → IsEncodedOtherwise f c
 otherwise f c high = grind arith

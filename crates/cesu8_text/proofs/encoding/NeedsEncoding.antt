@@ -1,25 +1,16 @@
 -- A text needs encoding if and only if its UTF-8 has a byte that changes, and if and only if its
 -- encoding is longer than its UTF-8.
 use Rattle.std.proofs.lemmas.Bool.Decides.{nat_tests}
-use Rattle.std.proofs.Common.{◌≡◌, ◌≢◌, ℕ, ◌<◌, ◌≤◌, ◌↔◌, List, [], ◌∷◌, ap, ⊎_elim, arith, length, length-append, get_or}
+use Rattle.std.proofs.Common.{◌≡◌, ◌≢◌, ℕ, ◌<◌, ◌↔◌, List, [], ◌∷◌, ap, ⊎_elim, arith, length, length-append, get_or}
 use Rattle.std.specs.Str.{chars, IsUtf8}
 use Rattle.std.specs.List.{Any}
 use Rattle.cesu8_text.specs.Text.{IsScalarValue, IsText, utf8_of, utf8}
 use Rattle.cesu8_text.specs.Encoding.{Flavor, Mutf8, encoding, IsEncodedOtherwise, NeedsEncoding}
-use Rattle.cesu8_text.specs.Class.{IsFour}
 pub use Rattle.cesu8_text.specs.Class.{IsChangedByte}
 use Rattle.cesu8_text.proofs.StdUtf8.{IsUtf8Of_chars}
 use Rattle.cesu8_text.proofs.encoding.Encodings.{encoding_nil, encoding_cons}
 use Rattle.cesu8_text.proofs.encoding.Lengths.{change, length_bounds}
 use Rattle.cesu8_text.proofs.lists.Elements.{any_nil, any_here, any_there, any_cons, any_left, any_right, any_append}
-
--- Bytes F0 to F7 (hexadecimal) lead four bytes.
-pub four_from : (b : ℕ) → 0xF0 ≤ b → b ≤ 0xF7 → IsFour b
-four_from b low high = grind (arith, nat_tests)
-
--- A byte that leads four bytes changes in both encodings.
-pub changed_by_four : (f : Flavor) (b : ℕ) → IsFour b → IsChangedByte f b
-changed_by_four f b four = grind (arith, nat_tests)
 
 -- A byte below F0 (hexadecimal) is unchanged, except 0 in MUTF-8.
 pub unchanged : (f : Flavor) (b : ℕ) → b < 0xF0 → (f ≡ Mutf8 → b ≢ 0) → IsChangedByte f b → ⊥

@@ -1,8 +1,8 @@
 -- Bounds on the length of a cutting's text, and the construction of a greedy cutting for any bytes.
-use Rattle.std.proofs.Common.{◌≡◌, ℕ, suc, zero, ◌*◌, ◌≤◌, List, [], ◌∷◌, Option, Some, None, refl, ap, arith, length, drop, length-append}
-use Rattle.cesu8_text.specs.Text.{utf8}
-use Rattle.cesu8_text.specs.Encoding.{Flavor}
-use Rattle.cesu8_text.specs.Reading.{width, standing, reading}
+use Rattle.std.proofs.Common.{◌≡◌, ℕ, suc, zero, ◌*◌, ◌≤◌, List, [], ◌∷◌, ◌++◌, Option, Some, None, refl, ap, arith, length, drop, length-append}
+use Rattle.cesu8_text.specs.Text.{IsScalarValue, utf8}
+use Rattle.cesu8_text.specs.Encoding.{Flavor, encoding}
+use Rattle.cesu8_text.specs.Reading.{NoneBegins, width, standing, reading}
 use Rattle.cesu8_text.specs.Cutting.{Piece, Character, Replaced, ArePieces, bytes_of, text_of, IsCutting, IsGreedy}
 use Rattle.cesu8_text.proofs.encoding.Lengths.{length_of_character}
 use Rattle.cesu8_text.proofs.reading.Standing.{standing_begins, standing_none}
@@ -57,3 +57,19 @@ pub reading_length : (f : Flavor) (bytes : List ℕ) → length (utf8 (reading f
 reading_length f bytes =
     let cutting = greedy_cutting f bytes in
     grind (arith, cutting_length f bytes cutting.pieces cutting.cuts, places f bytes cutting.pieces cutting.cuts)
+
+-- What holds of no bytes and the empty text, and goes on to hold with one more character or replaced
+-- byte before them, holds of all bytes and their lossy reading.
+module _ (f : Flavor) (P : List ℕ → List ℕ → Type 0) (none : P [] [])
+    (character : (c : ℕ) (rest text : List ℕ) → IsScalarValue c → P rest text → P (encoding f (c ∷ []) ++ rest) (c ∷ text))
+    (replaced : (b : ℕ) (rest text : List ℕ) → NoneBegins f (b ∷ rest) → P rest text → P (b ∷ rest) (0xFFFD ∷ text)) where
+  by_pieces : (pieces : List Piece) → ArePieces pieces → IsGreedy f pieces → P (bytes_of f pieces) (text_of pieces)
+  by_pieces [] are_pieces is_greedy = none
+  by_pieces (Character c ∷ pieces) are_pieces is_greedy = character c _ _ are_pieces.0 (by_pieces pieces are_pieces.1 is_greedy)
+  by_pieces (Replaced b ∷ pieces) are_pieces is_greedy = replaced b _ _ is_greedy.0 (by_pieces pieces are_pieces.1 is_greedy.1)
+
+  pub by_reading : (bytes : List ℕ) → P bytes (reading f bytes)
+  by_reading bytes =
+      let cutting = greedy_cutting f bytes in
+      let text = places f bytes cutting.pieces cutting.cuts cutting.greedy in
+      coe 0 1 (i. P (cutting.cuts.1 i) (text i)) (by_pieces cutting.pieces cutting.cuts.0 cutting.greedy)

@@ -10,7 +10,7 @@ use Rattle.cesu8_text.specs.Patterns.{IsContinuation}
 
 -- A byte that follows the first of a character: a continuation byte, or the ED that begins a low
 -- surrogate.
-abbrev IsInner : List ℕ → ℕ → Type 0
+abbrev pub IsInner : List ℕ → ℕ → Type 0
 IsInner bytes j = IsContinuation (get_or bytes j 0) ⊎ ((get_or bytes j 0 ≡ 0xED) × (0xB0 ≤ get_or bytes (suc j) 0))
 
 -- No character begins with a byte of `IsInner`.
@@ -19,7 +19,7 @@ unfolding encoding form units_of
 inner_begins_none f bytes c rest inner begins = grind (arith, nat_tests)
 
 -- Each byte of a character after the first is one of `IsInner`.
-inner_at : (f : Flavor) (bytes : List ℕ) (c j : ℕ) (rest : List ℕ) → BeginsWith f bytes c rest → 0 < j → j < width f c →
+pub inner_at : (f : Flavor) (bytes : List ℕ) (c j : ℕ) (rest : List ℕ) → BeginsWith f bytes c rest → 0 < j → j < width f c →
     IsInner bytes j
 unfolding encoding form units_of
 inner_at f bytes c j rest begins later inside = grind (arith, nat_tests)

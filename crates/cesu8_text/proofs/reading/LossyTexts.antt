@@ -1,34 +1,22 @@
 -- The lossy reading consists of scalar values, and it is the strict reading if it has no U+FFFD.
-use Rattle.std.proofs.Common.{◌≡◌, ◌≢◌, zero, suc, List, [], ◌∷◌, refl, sym, ap, ◌∙◌, subst, arith}
+use Rattle.std.proofs.Common.{◌≡◌, ◌≢◌, zero, suc, refl, arith}
 use Rattle.std.specs.List.{All}
 use Rattle.cesu8_text.specs.Text.{IsText}
-use Rattle.cesu8_text.specs.Encoding.{Flavor, encoding}
-use Rattle.cesu8_text.specs.Cutting.{Piece, Character, Replaced, ArePieces, text_of, bytes_of}
+use Rattle.cesu8_text.specs.Encoding.{encoding}
 use Rattle.cesu8_text.specs.Laws.{ReadingIsText, NothingReplaced}
 use Rattle.cesu8_text.proofs.encoding.Encodings.{encoding_nil, encoding_cons}
-use Rattle.cesu8_text.proofs.reading.Costs.{fewest}
+use Rattle.cesu8_text.proofs.reading.Cuttings.{by_reading}
 
--- The text of a cutting consists of scalar values, since U+FFFD is one.
-text_of_pieces : (pieces : List Piece) → ArePieces pieces → IsText (text_of pieces)
-text_of_pieces [] are_pieces = tt
-text_of_pieces (piece ∷ pieces) are_pieces = grind (arith, text_of_pieces pieces are_pieces.1)
-
--- The lossy reading consists of scalar values, since it is the text of a cutting.
+-- The lossy reading consists of scalar values, since U+FFFD is one.
 pub reading_is_text : ReadingIsText
-reading_is_text f bytes =
-    let cutting = fewest f bytes in rw cutting.3 at (text_of_pieces cutting.0 cutting.1.0)
+reading_is_text f =
+    by_reading f (λ bytes text. IsText text) tt (λ c rest text scalar is_text. (scalar, is_text)) (λ b rest text none is_text. grind arith)
 
--- A cutting whose text has no U+FFFD replaces nothing, so its bytes are the encoding of the text.
-none_replaced : (f : Flavor) (pieces : List Piece) → All (λ c. c ≢ 0xFFFD) (text_of pieces) →
-    encoding f (text_of pieces) ≡ bytes_of f pieces
-none_replaced f [] none = encoding_nil f
-none_replaced f (Character c ∷ pieces) none =
-    rw (encoding_cons, none_replaced f pieces (λ k d inside. none (suc k) d (omega arith)))
-none_replaced f (Replaced byte ∷ pieces) none = absurd (none zero 0 (omega arith) refl)
-
--- If the lossy reading has no U+FFFD, it is the strict reading.
+-- A lossy reading without U+FFFD replaces nothing, so it is the strict reading.
 pub nothing_replaced : NothingReplaced
-nothing_replaced f bytes none =
-    let cutting = fewest f bytes in
-    let free = none_replaced f cutting.0 (subst (All (λ c. c ≢ 0xFFFD)) (sym cutting.3) none) in
-    (reading_is_text f bytes, ap (encoding f) (sym cutting.3) ∙ free ∙ cutting.1.1)
+nothing_replaced f bytes none = (
+  reading_is_text f bytes,
+  by_reading f (λ bytes text. All (λ c. c ≢ 0xFFFD) text → encoding f text ≡ bytes) (λ _. encoding_nil f)
+      (λ c rest text scalar same free. rw (encoding_cons, same (λ k d inside. free (suc k) d (omega arith))))
+      (λ b rest text none_begins same free. absurd (free zero 0 (omega arith) refl)) bytes none,
+)
