@@ -1,6 +1,7 @@
 -- What two calls, one after the other, read and wrote, as if they were one call.
-use Rattle.std.proofs.Common.{◌≡◌, ℕ, ◌+◌, List, [], ◌∷◌, ◌++◌, refl, sym, ap, ◌∙◌, arith, take, drop, append_assoc, length-append}
+use Rattle.std.proofs.Common.{◌≡◌, ℕ, ◌+◌, ◌-◌, ◌≤◌, List, [], ◌∷◌, ◌++◌, refl, sym, ap, ◌∙◌, arith, length, take, drop, append_assoc, length-append, length-drop}
 use Rattle.std.proofs.lemmas.Grind.{common_steps}
+use Rattle.std.proofs.lemmas.List.{take_rest}
 use Rattle.std.proofs.Math.Seq.{take-add}
 use Rattle.simd_cesu8.specs.Text.{IsText}
 use Rattle.simd_cesu8.specs.Slices.{StandsAtFront}
@@ -53,3 +54,16 @@ pub nothing : (from to : List ℕ → List ℕ) (bytes old new : List ℕ) → f
     Converts from to bytes 0 0 old new
 nothing from to bytes old new from_empty to_empty same =
     ([], (tt, from_empty), (rw to_empty refl, rw (to_empty, same) refl))
+
+-- What was written fits in the buffer.
+pub written_fits : (answer old new : List ℕ) (w : ℕ) → StandsAtFront answer w old new → w ≤ length new
+written_fits answer old new w h =
+    let all : length new ≡ length answer + length (drop w old) = ap length h.1 ∙ length-append answer (drop w old) in
+    omega (arith, h.0, all)
+
+-- What was written to a buffer and to the rest of it fits in the buffer.
+pub both_fit : (answer buf new : List ℕ) (w n : ℕ) → w ≤ length buf → length new ≡ length (take (length buf - w) (drop w buf)) →
+    StandsAtFront answer n (take (length buf - w) (drop w buf)) new → w + n ≤ length buf
+both_fit answer buf new w n within long h =
+    let fits = written_fits answer (take (length buf - w) (drop w buf)) new n h in
+    omega (arith, fits, length-drop w buf, rw take_rest at long)

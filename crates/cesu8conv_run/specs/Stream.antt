@@ -1,10 +1,10 @@
 -- What a conversion of a stream does to its reader and its writer.
-use Rattle.std.specs.Prelude.{◌≡◌, ℕ, ◌≤◌, Bool, true, List, ◌++◌, length, take, drop, Option, IfSome}
-use Rattle.std.specs.Io.KnownBytes.{Appends}
+use Rattle.std.specs.Prelude.{◌≡◌, ℕ, ◌+◌, ◌≤◌, Bool, true, false, List, ◌++◌, length, take, drop, Option, IfSome}
+use Rattle.std.specs.Io.KnownBytes.{Appends, Consumes, IsAtEnd}
 use Rattle.cesu8conv_run.specs.Conversion.{Converts, IsOutput, IsDamage, IsDamagedAhead}
 use Rattle.cesu8conv_run.specs.declared.conversion.Conversion.{Conversion}
-use Rattle.cesu8conv_run.specs.declared.convert.PieceFault.{PieceFault}
-use Rattle.cesu8conv_run.specs.declared.convert.PieceFault.TheVariants as pieces
+use Rattle.cesu8conv_run.specs.declared.convert.Piece.{Piece}
+use Rattle.cesu8conv_run.specs.declared.convert.Round.{Round}
 use Rattle.cesu8conv_run.specs.declared.fault.Fault.{Fault}
 use Rattle.cesu8conv_run.specs.declared.fault.Fault.TheVariants.{Damage}
 
@@ -37,12 +37,50 @@ abbrev pub StopsBy : Conversion → Fault → (input old new : Option (List ℕ)
 StopsBy c (Damage offset ahead) input old new = IfSome input (λ bytes. StopsAt c offset bytes old new)
 StopsBy c other input old new = IfSome input (λ bytes. WritesSome c bytes old new)
 
+-- The stream so far. Of the input, so many bytes were taken and what they became was appended, and
+-- these bytes are ahead. If they are the last ones, the input is at its end.
+pub record IsSoFar (c : Conversion) (is_last : Bool) (r0 r1 w0 w1 : Option (List ℕ)) (ahead : List ℕ) (offset : ℕ) : Type 0 where
+  pub taken : List ℕ
+  pub output : List ℕ
+  pub counted : length taken ≡ offset
+  pub consumed : Consumes r0 r1 (taken ++ ahead)
+  pub ends : is_last ≡ true → IsAtEnd r1
+  pub converts : Converts c is_last taken ahead output
+  pub appended : Appends w0 w1 output
+
+-- Bytes were read after the unread ones of the window, up to this end, and none only at the end of
+-- the input.
+pub record ReadsMore (unread end : ℕ) (r1 r2 : Option (List ℕ)) (old new : List ℕ) : Type 0 where
+  pub more : unread ≤ end
+  pub within : end ≤ length new
+  pub got : List ℕ
+  pub consumed : Consumes r1 r2 got
+  pub piece_is : take end new ≡ take unread old ++ got
+  pub ends : end ≡ unread → IsAtEnd r2
+
 -- So many bytes of a piece of the input were taken, and what they became was appended.
 pub record TakesPiece (c : Conversion) (bytes : List ℕ) (is_last : Bool) (read : ℕ) (old new : Option (List ℕ)) : Type 0 where
   pub within : read ≤ length bytes
   pub output : List ℕ
   pub converts : Converts c is_last (take read bytes) (drop read bytes) output
   pub appended : Appends old new output
+
+-- The conversion of a piece came as far as it goes. If damage does not begin there, all of the last
+-- piece was taken.
+pub record IsPiece (c : Conversion) (bytes : List ℕ) (is_last : Bool) (piece : Piece) (old new : Option (List ℕ)) : Type 0 where
+  pub takes : TakesPiece c bytes is_last piece.read old new
+  pub all : piece.is_damaged ≡ false → is_last ≡ true → piece.read ≡ length bytes
+  pub damage : piece.is_damaged ≡ true → IsDamagedAhead c is_last (drop piece.read bytes)
+
+-- After a round, bytes of the window are ahead that were unread or are new. If they do not begin
+-- with damage, there are none of them at the end of the input.
+pub record IsRound (c : Conversion) (r1 r2 w1 w2 : Option (List ℕ)) (unread window : List ℕ) (round : Round) : Type 0 where
+  pub read_fits : round.read ≤ length window
+  pub left_fits : round.left ≤ length window
+  pub so_far : (r0 w0 : Option (List ℕ)) (offset : ℕ) → IsSoFar c false r0 r1 w0 w1 unread offset →
+      IsSoFar c round.is_last r0 r2 w0 w2 (take round.left window) (offset + round.read)
+  pub all : round.is_damaged ≡ false → round.is_last ≡ true → round.left ≡ 0
+  pub damage : round.is_damaged ≡ true → IsDamagedAhead c round.is_last (take round.left window)
 
 -- Some of what the first bytes of a piece became was appended.
 pub record BreaksPiece (c : Conversion) (bytes : List ℕ) (is_last : Bool) (old new : Option (List ℕ)) : Type 0 where
@@ -51,9 +89,3 @@ pub record BreaksPiece (c : Conversion) (bytes : List ℕ) (is_last : Bool) (old
   pub rest : List ℕ
   pub converts : Converts c is_last (take read bytes) (drop read bytes) (output ++ rest)
   pub appended : Appends old new output
-
--- How the conversion of a piece stops.
-abbrev pub PieceStops : Conversion → List ℕ → Bool → PieceFault → (old new : Option (List ℕ)) → Type 0
-PieceStops c bytes is_last (pieces.Damage read) old new =
-    TakesPiece c bytes is_last read old new × IsDamagedAhead c is_last (drop read bytes)
-PieceStops c bytes is_last (pieces.Write error) old new = BreaksPiece c bytes is_last old new

@@ -6,13 +6,14 @@
 //! follows them only the error in `write_whole` occurs, after a write that accepts no byte. An
 //! interrupted call would not be repeated, but the program has no signal handler to interrupt one.
 
-ghost use Rattle.std.specs.Prelude.{◌≡◌, ◌++◌, ℕ, List, length, OnOk, OnErr, IfOk, IfErr, IsTrue};
+ghost use Rattle.std.specs.Prelude.{◌≡◌, ◌++◌, ◌<◌, ℕ, Option, List, false, length, take, OnOk, OnErr, IfOk, IfErr};
 ghost use Rattle.std.specs.Io.KnownBytes.{Appends, IsAtEnd};
-ghost use Rattle.cesu8conv_run.specs.Stream.{WritesOutput, StopsBy, TakesPiece, PieceStops};
+ghost use Rattle.cesu8conv_run.specs.Steps.{IsStep};
+ghost use Rattle.cesu8conv_run.specs.Stream.{WritesOutput, StopsBy, IsSoFar, ReadsMore, IsRound, IsPiece, BreaksPiece};
 
 use crate::conversion::Conversion;
 use crate::fault::Fault;
-use crate::step::{Next, take_step};
+use crate::step::{Next, Step, nothing, take_step};
 use crate::watch::Watch;
 use simd_cesu8::laws;
 use std::io::{self, ErrorKind, Read, Write};
@@ -20,13 +21,26 @@ use std::io::{self, ErrorKind, Read, Write};
 /// The fewest bytes of a buffer: no character, replacement or pair has more.
 const LEAST: usize = 8;
 
-/// Why the conversion of a piece stops.
-#[derive(Drop)]
-pub enum PieceFault {
-    /// The bytes from this offset on begin with damage.
-    Damage(usize),
-    /// A write failed.
-    Write(io::Error),
+/// What a round did: it read a piece of the input, and converted that.
+#[derive(Clone, Copy)]
+pub struct Round {
+    /// How many bytes were taken.
+    pub read: usize,
+    /// How many bytes at the front of the window are left.
+    pub left: usize,
+    /// Whether the input ended.
+    pub is_last: bool,
+    /// Whether the bytes that are left begin with damage.
+    pub is_damaged: bool,
+}
+
+/// What was converted of a piece of the input.
+#[derive(Clone, Copy)]
+pub struct Piece {
+    /// How many bytes were taken.
+    pub read: usize,
+    /// Whether the bytes that are left begin with damage. Otherwise more input is needed.
+    pub is_damaged: bool,
 }
 
 /// Converts all that the reader has, and writes it to the writer. It allocates nothing: these two
@@ -45,45 +59,84 @@ pub fn convert<R: Read, W: Write, V: Watch>(
     ensures err { IfErr result (λ fault. StopsBy conversion fault (R.remaining input.old)
         (W.contents output.old) (W.contents output.new)) }
 {
-    // A law does nothing at run time: the proof uses its contract.
-    laws::concat();
     if window.len() < LEAST || room.len() < LEAST {
-        return Err(Fault::Size);
+        return Err(Fault::Limit);
     }
     let mut offset = 0u64;
     let mut unread = 0;
     for _ in 0..u64::MAX {
         // Neither can happen: less than a character is unread, and no input has that many bytes.
         if unread >= window.len() || offset > u64::MAX - window.len() as u64 {
-            return Err(Fault::Size);
+            return Err(Fault::Limit);
         }
-        let count = match input.read(&mut window[unread..]) {
-            Ok(count) => count,
-            Err(error) => return Err(Fault::Read(error)),
+        let round = match convert_more(conversion, input, output, window, unread, room, watch) {
+            Ok(round) => round,
+            Err(fault) => return Err(fault),
         };
-        let end = unread + count;
-        let is_last = count == 0;
-        match convert_piece(conversion, &window[..end], is_last, room, output, watch) {
-            Ok(read) => {
-                if is_last {
-                    return Ok(());
-                }
-                offset += read as u64;
-                window.copy_within(read..end, 0);
-                unread = end - read;
-            }
-            Err(PieceFault::Damage(read)) => {
-                window.copy_within(read..end, 0);
-                return Err(Fault::Damage(offset + read as u64, end - read));
-            }
-            Err(PieceFault::Write(error)) => return Err(Fault::Write(error)),
+        offset += round.read as u64;
+        unread = round.left;
+        if round.is_damaged {
+            return Err(Fault::Damage(offset, unread));
+        }
+        if round.is_last {
+            return Ok(());
         }
     }
-    Err(Fault::Size)
+    Err(Fault::Limit)
 }
 
-/// Converts a piece of the input as far as it goes, and writes that. Returns how many bytes it
-/// took.
+/// Reads more after the unread bytes of the window, converts it as far as it goes, writes that, and
+/// moves the bytes that are left to the front of the window.
+fn convert_more<R: Read, W: Write, V: Watch>(
+    conversion: Conversion,
+    input: &mut R,
+    output: &mut W,
+    window: &mut [u8],
+    unread: usize,
+    room: &mut [u8],
+    watch: &mut V,
+) -> Result<Round, Fault>
+    requires { unread < length window.now }
+    ensures ok { IfOk result (λ round. IsRound conversion (R.remaining input.old)
+        (R.remaining input.new) (W.contents output.old) (W.contents output.new)
+        (take unread window.old) window.new round) }
+    ensures err { IfErr result (λ fault. (r0 w0 : Option (List ℕ)) (offset : ℕ)
+        → IsSoFar conversion false r0 (R.remaining input.old) w0 (W.contents output.old)
+        (take unread window.old) offset
+        → StopsBy conversion fault r0 w0 (W.contents output.new)) }
+{
+    // A law does nothing at run time: the proof uses its contract.
+    laws::concat();
+    let end = match read_more(input, window, unread) {
+        Ok(end) => end,
+        Err(error) => return Err(Fault::Read(error)),
+    };
+    let is_last = end == unread;
+    let piece = match convert_piece(conversion, &window[..end], is_last, room, output, watch) {
+        Ok(piece) => piece,
+        Err(error) => return Err(Fault::Write(error)),
+    };
+    window.copy_within(piece.read..end, 0);
+    Ok(Round {
+        read: piece.read,
+        left: end - piece.read,
+        is_last,
+        is_damaged: piece.is_damaged,
+    })
+}
+
+/// Reads more after the unread bytes of the window, and returns where the bytes end then. They end
+/// at the same place only at the end of the input.
+fn read_more<R: Read>(input: &mut R, window: &mut [u8], unread: usize) -> io::Result<usize>
+    requires { unread < length window.now }
+    ensures { IfOk result (λ end. ReadsMore unread end (R.remaining input.old)
+        (R.remaining input.new) window.old window.new) }
+{
+    let count = input.read(&mut window[unread..])?;
+    Ok(unread + count)
+}
+
+/// Converts a piece of the input as far as it goes, and writes that.
 fn convert_piece<W: Write, V: Watch>(
     conversion: Conversion,
     bytes: &[u8],
@@ -91,34 +144,66 @@ fn convert_piece<W: Write, V: Watch>(
     room: &mut [u8],
     output: &mut W,
     watch: &mut V,
-) -> Result<usize, PieceFault>
-    ensures ok { IfOk result (λ read. TakesPiece conversion bytes.now is_last read
+) -> io::Result<Piece>
+    ensures ok { IfOk result (λ piece. IsPiece conversion bytes.now is_last piece
         (W.contents output.old) (W.contents output.new)) }
-    ensures all { IfOk result (λ read. IsTrue is_last → read ≡ length bytes.now) }
-    ensures err { IfErr result (λ fault. PieceStops conversion bytes.now is_last fault
+    ensures err { OnErr result (BreaksPiece conversion bytes.now is_last
         (W.contents output.old) (W.contents output.new)) }
 {
     laws::concat();
-    let mut at = 0;
-    let mut filled = 0;
+    let mut read = 0;
     for _ in 0..u64::MAX {
-        let step = take_step(conversion, &bytes[at..], is_last, &mut room[filled..]);
-        watch.taken(&bytes[at..at + step.read], step.replaced);
-        at += step.read;
-        filled += step.written;
-        if let Next::Step = step.next {
-            continue;
+        let step = take_steps(conversion, &bytes[read..], is_last, room, watch);
+        match write_whole(&room[..step.written], output) {
+            Ok(()) => read += step.read,
+            Err(error) => return Err(error),
         }
-        match write_whole(&room[..filled], output) {
-            Ok(()) => match step.next {
-                Next::Input => return Ok(at),
-                Next::Stop => return Err(PieceFault::Damage(at)),
-                _ => filled = 0,
-            },
-            Err(error) => return Err(PieceFault::Write(error)),
+        match step.next {
+            Next::Input => return Ok(Piece {
+                read,
+                is_damaged: false,
+            }),
+            Next::Stop => return Ok(Piece {
+                read,
+                is_damaged: true,
+            }),
+            Next::Room | Next::Step => {}
         }
     }
-    Err(PieceFault::Write(io::Error::from(ErrorKind::WriteZero)))
+    Err(io::Error::from(ErrorKind::WriteZero))
+}
+
+/// Takes steps until one needs more than another step, and returns them as one.
+fn take_steps<V: Watch>(
+    conversion: Conversion,
+    bytes: &[u8],
+    is_last: bool,
+    room: &mut [u8],
+    watch: &mut V,
+) -> Step
+    ensures { IsStep conversion bytes.now is_last room.new result }
+{
+    laws::concat();
+    let mut all = nothing(Next::Step);
+    for _ in 0..u64::MAX {
+        let step = take_step(
+            conversion,
+            &bytes[all.read..],
+            is_last,
+            &mut room[all.written..],
+        );
+        watch.taken(&bytes[all.read..all.read + step.read], step.replaced);
+        all = Step {
+            read: all.read + step.read,
+            written: all.written + step.written,
+            ..step
+        };
+        match all.next {
+            Next::Step => {}
+            _ => return all,
+        }
+    }
+    all
 }
 
 /// Writes all of the bytes.

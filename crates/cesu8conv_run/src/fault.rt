@@ -11,6 +11,6 @@ pub enum Fault {
     Read(io::Error),
     /// A write failed, or accepted no byte.
     Write(io::Error),
-    /// A buffer is too short, or the input has 2^64 bytes or more.
-    Size,
+    /// A buffer is shorter than a character, or the input has 2^64 bytes or more.
+    Limit,
 }

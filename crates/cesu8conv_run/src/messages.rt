@@ -44,7 +44,7 @@ pub fn explain(
         }
         Fault::Read(error) => say(rt, input.name(), error),
         Fault::Write(error) => say(rt, output.name, error),
-        Fault::Size => {
+        Fault::Limit => {
             let _ = eprintln!(rt; "cesu8conv: the input is too long");
             IO
         }

@@ -51,26 +51,45 @@ fn run_conversion(
         Err(error) => return say(rt, options.output.unwrap_or("standard output"), &error),
     };
     let mut input = Inputs::new(rt, names, progress(rt, options, names));
-    let mut tally = Tally::new();
-    let result = convert(
+    convert_files(
+        rt,
         conversion,
+        options,
         &mut input,
         &mut output,
         window,
         room,
-        &mut tally,
-    );
+    )
+}
+
+/// Converts the input to the output, and says what was wrong.
+fn convert_files(
+    rt: &HostRuntime,
+    conversion: Conversion,
+    options: &Options<'_>,
+    input: &mut Inputs<'_>,
+    output: &mut Target<'_>,
+    window: &mut [u8],
+    room: &mut [u8],
+) -> u8 {
+    let mut tally = Tally::new();
+    let result = convert(conversion, input, output, window, room, &mut tally);
     input.end_progress();
     match result {
-        Ok(()) => finish(rt, options, &input, &output, tally),
+        Ok(()) => finish(rt, options, input, output, tally),
         Err(fault) => {
-            let status = explain(rt, conversion, options, &input, &output, &fault, window);
-            if output.give_up(rt) && status == DAMAGED && !options.is_quiet {
-                let target = output.name;
-                let _ = eprintln!(rt; "cesu8conv: {target}: not written");
-            }
+            let status = explain(rt, conversion, options, input, output, &fault, window);
+            give_up(rt, options, output, status);
             status
         }
+    }
+}
+
+/// Leaves the old file in place of the output, and says so if damage is the reason.
+fn give_up(rt: &HostRuntime, options: &Options<'_>, output: &Target<'_>, status: u8) {
+    if output.give_up(rt) && status == DAMAGED && !options.is_quiet {
+        let target = output.name;
+        let _ = eprintln!(rt; "cesu8conv: {target}: not written");
     }
 }
 
@@ -138,23 +157,38 @@ fn check_one(
         return out_of_memory(rt);
     };
     let mut input = Inputs::new(rt, names, progress(rt, options, names));
-    let result = convert(
-        Conversion::Lossy(flavor),
-        &mut input,
-        &mut Nowhere,
-        window,
-        room,
-        &mut listing,
-    );
+    list_damage(rt, flavor, &mut input, &mut listing, window, room)
+}
+
+/// Lists the damage of the input.
+fn list_damage(
+    rt: &HostRuntime,
+    flavor: FlavorWord,
+    input: &mut Inputs<'_>,
+    listing: &mut Listing<'_>,
+    window: &mut [u8],
+    room: &mut [u8],
+) -> u8 {
+    let conversion = Conversion::Lossy(flavor);
+    let result = convert(conversion, input, &mut Nowhere, window, room, listing);
     input.end_progress();
-    let flushed = listing.finish();
     match result {
-        Ok(()) => match flushed {
-            Ok(()) => if listing.is_damaged { DAMAGED } else { DONE },
-            Err(error) => say(rt, "standard output", &error),
-        },
-        Err(Fault::Read(error)) => say(rt, input.name(), &error),
-        Err(_) => IO,
+        Ok(()) => end_listing(rt, listing),
+        Err(fault) => {
+            let _ = listing.finish();
+            match fault {
+                Fault::Read(error) => say(rt, input.name(), &error),
+                _ => IO,
+            }
+        }
+    }
+}
+
+/// Prints the rest of the list, and returns the status.
+fn end_listing(rt: &HostRuntime, listing: &mut Listing<'_>) -> u8 {
+    match listing.finish() {
+        Ok(()) => if listing.is_damaged { DAMAGED } else { DONE },
+        Err(error) => say(rt, "standard output", &error),
     }
 }
 

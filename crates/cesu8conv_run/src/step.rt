@@ -30,7 +30,7 @@ pub struct Step {
     pub read: usize,
     /// How many bytes of the buffer they became.
     pub written: usize,
-    /// How many of the bytes were replaced: one or none. It is the last one that was taken.
+    /// 1 if the last byte that was taken was replaced, and otherwise 0.
     pub replaced: usize,
     /// What comes next.
     pub next: Next,
@@ -144,7 +144,7 @@ fn pass_step(flavor: FlavorWord, bytes: &[u8], is_last: bool, room: &mut [u8]) -
 }
 
 /// The step that takes nothing.
-fn nothing(next: Next) -> Step
+pub fn nothing(next: Next) -> Step
     ensures read { result.read ≡ 0 }
     ensures written { result.written ≡ 0 }
     ensures next { result.next ≡ next }

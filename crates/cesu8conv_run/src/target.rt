@@ -89,19 +89,24 @@ impl Write for Target<'_> {
 
 /// Opens the draft for a file, with the permissions of that file if it is there.
 fn open_file(rt: &HostRuntime, name: &str) -> io::Result<(File, Option<Draft>)> {
-    let old = fs::metadata(rt, name);
-    if let Ok(metadata) = &old {
-        if !metadata.is_file() {
-            let file = File::options().write(true).open(rt, name)?;
-            return Ok((file, None));
-        }
+    let Ok(old) = fs::metadata(rt, name) else {
+        let (file, draft) = open_draft(rt, name)?;
+        return Ok((file, Some(draft)));
+    };
+    if !old.is_file() {
+        let file = File::options().write(true).open(rt, name)?;
+        return Ok((file, None));
     }
+    let (file, draft) = open_draft(rt, name)?;
+    let _ = OpenFile::set_permissions(&file, old.permissions());
+    Ok((file, Some(draft)))
+}
+
+/// Creates the draft for a file.
+fn open_draft(rt: &HostRuntime, name: &str) -> io::Result<(File, Draft)> {
     let draft = draft_of(rt, name)?;
     let file = File::create_new(rt, draft.path.as_str())?;
-    if let Ok(metadata) = old {
-        let _ = OpenFile::set_permissions(&file, metadata.permissions());
-    }
-    Ok((file, Some(draft)))
+    Ok((file, draft))
 }
 
 /// Names the draft for a file. Through a link, the file that it leads to is replaced.

@@ -1,8 +1,23 @@
 -- The step at the start and the call on the rest are together one call (`continued`).
+use Rattle.std.proofs.Common.{◌≤◌, ◌+◌, length, arith}
 use Rattle.std.proofs.lemmas.List.{take_rest}
+use Rattle.cesu8_stream.proofs.Joined.{written_fits, both_fit}
 use Rattle.cesu8_stream.proofs.First.{Sizes}
 use Rattle.cesu8_stream.proofs.Pieces.{IsConversion, to_end, continued}
 use Rattle.cesu8_stream.proofs.engine.convert.Goals as goal
+
+-- What the first call wrote fits in the buffer, and so does what the second one writes.
+pub slice_bounds-convert_rest-count-2 : goal.slice_bounds-convert_rest-count-2
+slice_bounds-convert_rest-count-2 g c = written_fits _ _ _ _ c.convert_window-first.ensures.moves.2
+
+pub overflow_add-result-2 : goal.overflow_add-result-2
+overflow_add-result-2 g c =
+    let first = c.convert_window-first in
+    let rest = c.convert_rest-rest in
+    let fits : first.result.written + rest.result.written ≤ length first.new.buf =
+    both_fit _ first.new.buf rest.new.buf first.result.written rest.result.written (written_fits _ _ _ _ first.ensures.moves.2)
+    rest.auto.buf rest.ensures.text.2 in
+    omega arith
 
 pub returns : goal.returns
 returns g c =
