@@ -5,9 +5,10 @@
 # Most of a check is loading, so one check tries several edits at once, a round. rounds.awk makes the rounds,
 # so that each edit of one changes another function. An edit counts as rejected only if a goal of the
 # function that it changes is false: told.awk finds that in the output of the check. A round that changes only
-# functions is first tried by a check of these alone. The edits that this does not reject are tried again by
-# a check of the whole crate, first together and at last one by one: `rt` does not try the goals of a function
-# that calls an unproved one, and an edit that cannot be read breaks its round.
+# functions is first tried by a check of these alone. `rt` does not try the goals of a function that calls an
+# unproved one, so the edits that this does not reject are tried again in the same way, as long as one is
+# rejected each time. Those that are left are tried by a check of the whole crate, which takes longer: first
+# together and at last one by one, since an edit that cannot be read breaks its round.
 
 # The crates, each after those that it uses.
 listed_crates() {
@@ -59,8 +60,10 @@ try_edits() {
 # Tries the edits of a crate, in a tree for it, once its libraries are proved.
 try_crate() {
     local crate=$1 from=$scratch/scripts plan=$scratch/rounds/$1.plan
-    local -a names
-    until is_ready "$crate"; do
+    local -a names needed
+    mapfile -t needed < <(used_by "$crate")
+    is_of_programs "$crate" || needed+=("$crate")
+    until are_proved "${needed[@]}"; do
         [[ ! -e $scratch/proved/failed ]] || return
         sleep 3
     done
@@ -77,13 +80,12 @@ try_crate() {
     note_seconds "$crate: edits"
 }
 
-# Whether what a crate uses is proved, and the crate itself if a proof of it is needed.
-is_ready() {
+# Whether crates are proved: `are_proved CRATE..`.
+are_proved() {
     local name
-    for name in $(used_by "$1"); do
+    for name in "$@"; do
         [[ -e $scratch/proved/$name ]] || return 1
     done
-    is_of_programs "$1" || [[ -e $scratch/proved/$1 ]]
 }
 
 # Makes a tree in which a crate is checked over the proved libraries, with what was kept of its own proof:
@@ -150,7 +152,9 @@ try_round() {
         fi
     done < <(awk -v status="$status" -f "$scratch/scripts/.ci/told.awk" "${owners[@]/#/$plan/}" "$plan/said")
     ((${#again[@]} > 0)) || return 0
-    if [[ $how == only ]] || ((${#again[@]} < $#)); then
+    if ((${#again[@]} < $#)); then
+        try_round "$how" "$crate" "${again[@]}"
+    elif [[ $how == only ]]; then
         try_round whole "$crate" "${again[@]}"
     else
         for name in "${again[@]}"; do try_round whole "$crate" "$name"; done

@@ -128,7 +128,8 @@ test_levels() {
 
 # Builds other forms of the crate. That for x86-64-v3 takes least, so it is the one that is compared
 # with the library for C, if this processor has its level. Its assembly is also written, for
-# `look_at_assembly`. Tests of the other forms run long, so these are optimized a little.
+# `look_at_assembly`. The other forms differ in which code a call chooses, and `test_levels` tests that
+# code on many inputs, so they are tested on few.
 test_forms() {
     local compared=(test --release --test c_library --test cases --test surface)
     local flags="$v3_flags --emit asm"
@@ -138,12 +139,12 @@ test_forms() {
         flags=''
     fi
     target=v3 RUSTFLAGS=$flags in_crate "${compared[@]}" || wrong 'the build for x86-64-v3'
-    CARGO_PROFILE_TEST_OPT_LEVEL=1 target=v2 RUSTFLAGS='--cfg cesu8_level="v2"' \
+    export CESU8_INPUTS=$debug_inputs
+    target=v2 RUSTFLAGS='--cfg cesu8_level="v2"' \
         in_crate test --lib -- level public_calls || wrong 'the build without v3'
     target=none in_crate check --no-default-features || wrong 'the build without std'
     target=simdutf8 in_crate test --features simdutf8 --test cases || wrong 'the feature simdutf8'
-    CARGO_PROFILE_TEST_OPT_LEVEL=1 target=plain RUSTFLAGS='--cfg cesu8_level="plain"' \
-        in_crate test --tests || wrong 'the plain form'
+    target=plain RUSTFLAGS='--cfg cesu8_level="plain"' in_crate test --tests || wrong 'the plain form'
     pass
 }
 

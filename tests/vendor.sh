@@ -125,8 +125,13 @@ compare_code() {
     grep -r --include='*.rt' '#\[test\]' "$new/crates" && wrong 'a test is copied'
 }
 
-# Proves the crates and runs the program, with what is already proved here. A copy without tests has other
-# sources than the library here, so `rt` builds it again, but reuses each proof that it kept.
+# Runs `rt` in a crate of the new repository: `prove_crate CRATE COMMAND`.
+prove_crate() {
+    (cd "$new/crates/$1" && quietly rt "$2" ${PROOF_JOBS:+--jobs "$PROOF_JOBS"})
+}
+
+# Proves the crates and runs the program, with what is already proved here. The library comes first: over one
+# that is not built, `rt run` would read all sources once more, to report errors early.
 prove() {
     local library made
     for library in "${libraries[@]}"; do
@@ -136,7 +141,7 @@ prove() {
             cp -R "$top/crates/$library/out/$made" "$new/crates/$library/out" || exit 2
         done
     done
-    if ! (cd "$new/crates/keys" && quietly rt run ${PROOF_JOBS:+--jobs "$PROOF_JOBS"}); then
+    if ! prove_crate sorted lib || ! prove_crate keys run; then
         wrong 'the crates are not proved'
     elif ! grep -qx '7 bytes, borrowed: false' "$scratch/said" ||
         ! grep -qx $'a\360\237\222\226' "$scratch/said"; then
