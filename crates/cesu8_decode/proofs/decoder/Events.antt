@@ -45,8 +45,8 @@ module _ {f : Flavor} {bytes : List ℕ} {at : ℕ} {width : ℕ} {window : Wind
   fits = marks_fit (is_ill_formed_at f (window_of bytes)) at is.n is.few is.ill_formed
 
   -- The text of some bytes of the window is no longer than that of a window can be.
-  most_written : (n : ℕ) → n ≤ window.len → length (decoded f (window_of bytes) at n) ≤ most_of_window window
-  most_written n within =
+  text_fits : (n : ℕ) → n ≤ window.len → length (decoded f (window_of bytes) at n) ≤ most_of_window window
+  text_fits n within =
       ⊎_elim (λ (none : window.ill_formed ≡ 0).
       let short = no_longer f Strict (window_of bytes) at n (λ strict i low inside. none_in_window f bytes at window is none i low (omega arith)) in
       rw none (omega (arith, short, is.fits)))
@@ -94,8 +94,8 @@ none_read {f = f} {bytes = bytes} {at = at} {width = width} {window = window} st
 
 module _ {f : Flavor} {bytes : List ℕ} {at width : ℕ} {window : Window} {start : ℕ} {old : List ℕ} {read events end : ℕ} {new : List ℕ}
     (so_far : AreRead f bytes at width window start old read events end new) where
-  abbrev w : IsWindow f bytes at window
-  w = so_far.holds.is_window
+  abbrev is_window : IsWindow f bytes at window
+  is_window = so_far.holds.is_window
 
   abbrev ill : ℕ
   ill = window.ill_formed
@@ -109,9 +109,9 @@ module _ {f : Flavor} {bytes : List ℕ} {at width : ℕ} {window : Window} {sta
       let both = none_before (changing window) ill read events ill_fits so_far.left next (i - at) none (omega arith) (omega arith) in
       let ors = bit_at_or window.pairs window.nulls (i - at) in
       record {
-        pair = pair_unset w i (omega arith) (omega arith) (omega (arith, both, ors));
-        null = null_unset w i (omega arith) (omega arith) (omega (arith, both, ors));
-        fine = ill_unset w i (omega arith) (omega arith) both.1;
+        pair = pair_unset is_window i (omega arith) (omega arith) (omega (arith, both, ors));
+        null = null_unset is_window i (omega arith) (omega arith) (omega (arith, both, ors));
+        fine = ill_unset is_window i (omega arith) (omega arith) both.1;
       }
 
   -- The bytes before the next event are copied.
@@ -145,28 +145,28 @@ module _ {f : Flavor} {bytes : List ℕ} {at width : ℕ} {window : Window} {sta
     next_set : (bit_at window.pairs next ≡ 1) ⊎ (bit_at window.nulls next ≡ 1) ⊎ (bit_at ill next ≡ 1)
     next_set = grind (arith, event_set (changing window) ill ill_fits next (sym (so_far.left.same next next_low) ∙ lowest.set), bit_at_or window.pairs window.nulls next, bit_at-lt window.pairs next, bit_at-lt window.nulls next)
 
-    next_begins : next < w.n
-    next_begins = ⊎_elim (λ pair. (pair_set w next pair).0) (⊎_elim (λ null. (null_set w next null).0) (λ bad. (ill_set w next bad).0)) next_set
+    next_begins : next < is_window.n
+    next_begins = ⊎_elim (λ pair. (pair_set is_window next pair).0) (⊎_elim (λ null. (null_set is_window next null).0) (λ bad. (ill_set is_window next bad).0)) next_set
 
     pub next_inside : next < window.len
-    next_inside = omega (arith, next_begins, w.len)
+    next_inside = omega (arith, next_begins, is_window.len)
 
     -- An event that is neither an ill-formed byte nor C0 80 is a surrogate pair.
     pub pair_marked : trailing_ones w64 (ill / 2 ^ next) ≡ 0 → bit_at window.nulls next ≡ 0 → is_pair_at f bytes (at + next) ≡ true
     pair_marked none other =
         let here : next ≡ next + trailing_ones w64 (ill / 2 ^ next) = omega (arith, none) in
         let fine : bit_at ill next ≡ 0 = ap (bit_at ill) here ∙ run_ends ill next ill_fits in
-        ⊎_elim (λ (pair : bit_at window.pairs next ≡ 1). (pair_set w next pair).1)
+        ⊎_elim (λ (pair : bit_at window.pairs next ≡ 1). (pair_set is_window next pair).1)
         (⊎_elim (λ (null : bit_at window.nulls next ≡ 1). absurd (omega (arith, null, other))) (λ (bad : bit_at ill next ≡ 1). absurd (omega (arith, bad, fine)))) next_set
 
     -- The bytes before it are copied.
     module _ (copied after : ℕ) (mid last : List ℕ) (copy : WritesAt (take (next - read) (drop (at + read) bytes)) end new mid copied) where
       before : WritesAt (decoded f (window_of bytes) at next) start old mid copied
-      before = copied_to next copied mid next_low (omega (arith, next_begins, w.len)) lowest.below copy
+      before = copied_to next copied mid next_low (omega (arith, next_begins, is_window.len)) lowest.below copy
 
       -- The buffer has space for the bytes of one more event.
       pub event_room : copied ≤ start + most_of_window window
-      event_room = omega (arith, before.end, most_written so_far.holds next (omega (arith, next_begins, w.len)))
+      event_room = omega (arith, before.end, text_fits so_far.holds next (omega (arith, next_begins, is_window.len)))
 
       -- After an event of m bytes the loop's state holds again.
       event_read : (m : ℕ) → 0 < m → next + m ≤ window.len → ((i : ℕ) → next < i → i < next + m → bit_at (events_of window) i ≡ 0) →
@@ -180,7 +180,7 @@ module _ {f : Flavor} {bytes : List ℕ} {at width : ℕ} {window : Window} {sta
             within = within;
             boundary = boundary;
             text = text;
-            room = omega (arith, text.end, most_written so_far.holds (next + m) within);
+            room = omega (arith, text.end, text_fits so_far.holds (next + m) within);
           }
 
       -- A run of n ill-formed bytes begins there.
@@ -188,11 +188,11 @@ module _ {f : Flavor} {bytes : List ℕ} {at width : ℕ} {window : Window} {sta
         ones : (i : ℕ) → next ≤ i → i < next + n → bit_at ill i ≡ 1
         ones i low inside = run_ones ill next ill_fits i low (omega (arith, inside, run))
 
-        bad : (i : ℕ) → next ≤ i → i < next + n → (i < w.n) × (is_ill_formed_at f (window_of bytes) (at + i) ≡ true)
-        bad i low inside = ill_set w i (ones i low inside)
+        bad : (i : ℕ) → next ≤ i → i < next + n → (i < is_window.n) × (is_ill_formed_at f (window_of bytes) (at + i) ≡ true)
+        bad i low inside = ill_set is_window i (ones i low inside)
 
         within : next + n ≤ window.len
-        within = omega (arith, (bad (next + n - 1) (omega arith) (omega arith)).0, w.len)
+        within = omega (arith, (bad (next + n - 1) (omega arith) (omega arith)).0, is_window.len)
 
         are : utf8 (replicate n 0xFFFD) ≡ decoded f (window_of bytes) (at + next) n
         are = ill_formed_decoded f bytes (at + next) n (λ i low inside.
@@ -204,7 +204,7 @@ module _ {f : Flavor} {bytes : List ℕ} {at width : ℕ} {window : Window} {sta
         run_room = omega (
           arith,
           before.end,
-          most_written so_far.holds (next + n) within,
+          text_fits so_far.holds (next + n) within,
           ap length (decoded_split f (window_of bytes) at next n),
           length-append (decoded f (window_of bytes) at next) (decoded f (window_of bytes) (at + next) n),
           ap length are,
@@ -234,16 +234,16 @@ module _ {f : Flavor} {bytes : List ℕ} {at width : ℕ} {window : Window} {sta
               wide,
               width_there f bytes (at + next),
               ap (width_at f (window_of bytes)) there,
-              not_reached f (window_of bytes) (at + i) (ill_set w i set).1 s (omega arith),
+              not_reached f (window_of bytes) (at + i) (ill_set is_window i set).1 s (omega arith),
             ))
 
         pub changed_read : WritesAt (decoded f (window_of bytes) (at + next) m) copied mid last after →
             AreRead f bytes at width window start old (next + m) (bit_and events (events - 1)) after last
         changed_read changed =
             let behind : at + (next + m) ≡ at + next + m = omega arith in
-            let within = ends_within w next m some wide next_begins in
+            let within = ends_within is_window next m some wide next_begins in
             event_read m some within
-            (λ i low inside. no_event so_far.holds i (i - 1) (omega arith) (none_inside w next m some wide next_begins (omega (arith, so_far.holds.after)) i low inside) (inl (covered i (omega arith) inside)))
+            (λ i low inside. no_event so_far.holds i (i - 1) (omega arith) (none_inside is_window next m some wide next_begins (omega (arith, so_far.holds.after)) i low inside) (inl (covered i (omega arith) inside)))
             (run_begins (changing window) ill ill_fits (next + m) (next + m - 1) (omega arith) (covered (next + m - 1) (omega arith) (omega arith)))
             (ap (is_boundary_at f (window_of bytes)) behind ∙ boundary_after_character f bytes (at + next) m (omega (arith, so_far.holds.after, within)) some (width_there f bytes (at + next) ∙ sym wide))
             changed

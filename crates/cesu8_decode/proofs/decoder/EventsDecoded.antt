@@ -144,36 +144,33 @@ module _ (f : Flavor) (bytes : List ℕ) where
 
   -- ---- boundaries
 
-  -- No character crosses the start of another.
-  boundary_before : (i : ℕ) → i < length bytes → 0 < w (i + 5) → is_boundary_at f (window_of bytes) i ≡ true
-  boundary_before i inside some =
+  -- If each character that begins before an offset ends at or before it, none crosses it.
+  boundary_if : (i : ℕ) → ((p : ℕ) → p < i → p + w (p + 5) ≤ i) → is_boundary_at f (window_of bytes) i ≡ true
+  boundary_if i ends =
       boundary_where f (window_of bytes) i (λ s small.
       ⊎_elim (λ (early : i + s < 5). omega (arith, zero_width f (window_of bytes) (i + s) (zeros_before bytes (i + s) early)))
       (λ (late : 5 ≤ i + s).
       let there : i + s ≡ i + s - 5 + 5 = omega arith in
-      omega (arith, ap w there, ends_before f (window_of bytes) bytes (i + s - 5) i (follows_zeros bytes) (omega arith) inside some))
+      omega (arith, ap w there, ends (i + s - 5) (omega arith)))
       (cases_lt (i + s) 5))
+
+  -- No character crosses the start of another.
+  boundary_before : (i : ℕ) → i < length bytes → 0 < w (i + 5) → is_boundary_at f (window_of bytes) i ≡ true
+  boundary_before i inside some = boundary_if i (λ p before. ends_before f (window_of bytes) bytes p i (follows_zeros bytes) before inside some)
 
   -- No character crosses the end of another.
   pub boundary_after_character : (i m : ℕ) → i + m ≤ length bytes → 0 < m → w (i + 5) ≡ m → is_boundary_at f (window_of bytes) (i + m) ≡ true
   boundary_after_character i m fits some is =
-      boundary_where f (window_of bytes) (i + m) (λ s small.
-      let q = i + m + s in
-      ⊎_elim (λ (early : q < 5). omega (arith, zero_width f (window_of bytes) q (zeros_before bytes q early)))
-      (λ (late : 5 ≤ q).
-      let p = q - 5 in
-      let there : q ≡ p + 5 = omega arith in
-      let same = ap w there in
-      ⊎_elim (λ (before : p < i). omega (arith, same, ends_before f (window_of bytes) bytes p i (follows_zeros bytes) before (omega arith) (omega (arith, is))))
+      boundary_if (i + m) (λ p inside.
+      ⊎_elim (λ (before : p < i). omega (arith, ends_before f (window_of bytes) bytes p i (follows_zeros bytes) before (omega arith) (omega (arith, is))))
       (λ (after : i ≤ p).
-      ⊎_elim (λ (here : p ≡ i). omega (arith, same, is, ap (λ i. w (i + 5)) here))
+      ⊎_elim (λ (here : p ≡ i). omega (arith, is, ap (λ i. w (i + 5)) here))
       (λ (other : ¬ (p ≡ i)).
       ⊎_elim (λ (begun : 0 < w (p + 5)). absurd (omega (arith, is, ends_before f (window_of bytes) bytes i p (follows_zeros bytes) (omega (arith, other)) (omega arith) begun)))
-      (λ (none : w (p + 5) ≤ 0). omega (arith, same, none))
+      (λ (none : w (p + 5) ≤ 0). omega (arith, none))
       (cases_lt 0 (w (p + 5))))
       (cases_eq p i))
       (cases_lt p i))
-      (cases_lt q 5))
 
   -- No character crosses the offset after an ill-formed byte.
   pub boundary_after_ill_formed : (i : ℕ) → is_ill_formed_at f (window_of bytes) i ≡ true → is_boundary_at f (window_of bytes) (i + 1) ≡ true
