@@ -46,6 +46,16 @@ pub fn lossy_len<F: Flavor>(bytes: &[u8]) -> Option<usize>
     if is_one_block(bytes) {
         return Some(3 * bytes.len() - saved_in_block::<F>(bytes));
     }
+    lossy_len_by_steps::<F>(bytes)
+}
+
+/// Like `lossy_len`, in steps of `STEP` bytes. It is not inlined, so that at most one block needs no
+/// registers of its loop.
+#[inline(never)]
+fn lossy_len_by_steps<F: Flavor>(bytes: &[u8]) -> Option<usize>
+    ensures some { IfSome result (λ len. len ≡ lossy_length F.flavor bytes.now) }
+    ensures none { IfNone result (usize.MAX < lossy_length F.flavor bytes.now) }
+{
     let mut len = 3 * bytes.len() as u128;
     let mut at = 0;
     while bytes.len() - at > LANES {

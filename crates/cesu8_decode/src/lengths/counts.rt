@@ -24,9 +24,8 @@ pub fn saved_in_block<F: Flavor>(bytes: &[u8]) -> usize
     saved_by_lanes::<F, BLOCK>(padded_half(bytes), bytes.len())
 }
 
-/// Returns what at most 64 bytes save. It is not inlined, so that `lossy_len` saves fewer registers
-/// for at most one block.
-#[inline(never)]
+/// Returns what at most 64 bytes save.
+#[inline(always)]
 #[tactic(auto, using(crate::proofs::decoder::MaskReturns::saved_with_zeros))]
 pub fn saved_in_short<F: Flavor>(bytes: &[u8]) -> usize
     requires { length bytes.now ≤ LANES }

@@ -1,7 +1,7 @@
 -- `len` is three times the length less what the first `at` offsets save.
 use Rattle.std.proofs.Common.{◌≡◌, ◌+◌, ◌*◌, ◌-◌, ◌≤◌, length, drop}
 use Rattle.cesu8_decode.specs.DecodedOffsets.{total_saved}
-use Rattle.cesu8_decode.proofs.lengths.lossy_len.Given as goal
+use Rattle.cesu8_decode.proofs.lengths.lossy_len_by_steps.Given as goal
 
 abbrev pub invariant-loop-at : goal.invariant-loop-at
 invariant-loop-at g l =
