@@ -4,9 +4,10 @@
 # with a plain model, with every error handler, every split of damaged bytes, files and streams, and
 # Java's own bytes. It also checks the wheel's contents, the names, the alignment and the mark of
 # its module, and that wheel.py writes the same bytes again. Then it tests the wheel in each other
-# Python from 3.10 on that is installed as python3.N, and in the debug build of Debian's
-# python3-dbg. It tests the C module by itself under valgrind and with the address sanitizer, and
-# the wheel for aarch64 in the Python of AARCH64_ROOT (tests/cross.sh), in an emulator.
+# Python from 3.10 on that is installed as python3.N, and, without the tests of all inputs, in the
+# debug build of Debian's python3-dbg. It tests the C module by itself under valgrind and with the
+# address sanitizer, and the wheel for aarch64 in the Python of AARCH64_ROOT (tests/cross.sh), in an
+# emulator.
 #
 # RELEASE names the folder that dist.sh has filled; if it is not set, this script runs dist.sh. If
 # python3 with venv or the header that dist.sh needs is missing, it says that it skipped everything.
@@ -181,6 +182,13 @@ PYTHON
     fi
 }
 
+# The tests that make the same few calls on every input of a kind, and compare the results with the model.
+# The release builds of Python run them. In the debug build and in the emulator they would take minutes,
+# most of that for the model. Other tests make these calls there, too.
+exhaustive='test_calls.Tables.test_all_of_two_bytes test_calls.Tables.test_all_scalar_values
+    test_codecs.Decoding.test_all_of_two_bytes test_codecs.Decoding.test_escaped_bytes_come_back
+    test_streams.Incremental.test_what_is_kept'
+
 # Tests the wheel in another Python, if it is installed. A debug build checks the borders of each
 # memory block, and the result of each call.
 test_by() {
@@ -188,7 +196,8 @@ test_by() {
         [[ $1 != *-dbg ]] || echo "$1 is missing: a debug build of Python skipped"
     elif [[ $1 == *-dbg || $("$1" -V) != "$("$python" -V)" ]]; then
         echo "in $("$1" -V) by $1:"
-        run_tests 'test_*.py' "$scratch/site-packages" "$1" -I
+        SLOW=$([[ $1 != *-dbg ]] || echo "$exhaustive") \
+            run_tests 'test_*.py' "$scratch/site-packages" "$1" -I
     fi
 }
 
@@ -215,8 +224,8 @@ test_sanitized() {
     run_tests test_native.py "$site" env "${environment[@]}" "$python" -s
 }
 
-# Tests the wheel for aarch64 in an emulator, in a Python for arm64. It leaves out the tests that
-# take minutes there, and that are more about the Python package than about the module.
+# Tests the wheel for aarch64 in an emulator, in a Python for arm64. It also leaves out two tests that take
+# long there, and that are more about the Python package than about the module.
 test_on_aarch64() {
     local wheel folder=$scratch/aarch64 unpacked=$scratch/unpacked/$cross_name python
     for_aarch64 'the wheel for aarch64' || return 0
@@ -239,9 +248,7 @@ test_on_aarch64() {
         >"$folder/python"
     chmod 755 "$folder/python"
     echo "in $("$folder/python" -V) for aarch64:"
-    SLOW='test_calls.Tables.test_all_of_two_bytes test_calls.Tables.test_all_scalar_values
-        test_codecs.Decoding.test_handlers test_codecs.Decoding.test_escaped_bytes_come_back
-        test_codecs.Decoding.test_much_damage_is_linear test_streams.Incremental.test_what_is_kept' \
+    SLOW="$exhaustive test_codecs.Decoding.test_handlers test_codecs.Decoding.test_much_damage_is_linear" \
         run_tests 'test_*.py' "$folder/site-packages" "$folder/python" -I
 }
 
