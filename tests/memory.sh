@@ -13,9 +13,11 @@
 # - an empty copy, a length, a comparison, a result in a slice, a piece, and a Java string that is too
 #   long or truncated allocate nothing.
 #
-# The program of crates/memory_calls makes the calls that its standard input names, on one input. It
-# prints each result, and how many of three further allocations succeed before one fails. `rt try` makes
-# one allocation of a process fail: here always the third; the program makes some itself before it.
+# The proved program of crates/memory_calls makes the calls that its standard input names, on one input. It
+# prints each result, and how many of three further allocations succeed before one fails. tests/requests.c,
+# which is loaded between the program and the C library, makes one allocation of a process fail: here always
+# the third of `main`, which makes some itself before it. (`rt try` could do that without proof, but takes a
+# tenth of a second for each process.)
 #
 # Each allocation of a call fails in turn. Then the call must return out of memory for any input, a
 # caller's buffer must keep its content, and what a failed copy borrows must still be there. Each call is
@@ -28,13 +30,28 @@
 # clause states the capacity of what is built, and tests/requests.sh sees how much is allocated for input
 # that is rejected.
 #
-# It prints what is wrong, and the number of processes at the end. The status is 0 if nothing is wrong.
-# It needs the kit's `rt` (which builds here without proof), bash, sed and the core utilities.
+# It prints what is wrong, and the number of processes at the end. Without `cc` it skips everything, and says
+# so. The status is 0 if nothing is wrong. In a clean clone it first proves the program. It needs the kit's
+# `rt`, `cc`, bash, sed and the core utilities.
 # shellcheck source=tests/lib.sh
 source "$(dirname "${BASH_SOURCE[0]}")/lib.sh" || exit 2
-# shellcheck source=tests/kit.sh
-source "$top/tests/kit.sh" || exit 2
-mkdir "$scratch/cases" || exit 2
+mkdir "$scratch"/{cases,wanted} || exit 2
+can_build_c 'the allocations of calls' || exit 0
+
+# The gate sets PROVED_MEMORY_CALLS to the program that it has proved, so that it is not proved again.
+program=${PROVED_MEMORY_CALLS:-$top/crates/memory_calls/out/memory_calls}
+
+# Builds the program by `rt run`, the only command that keeps it in out/.
+build_calls() {
+    [[ -z ${PROVED_MEMORY_CALLS-} ]] || return 0
+    # shellcheck source=tests/kit.sh
+    source "$top/tests/kit.sh" || exit 2
+    if ! (cd "$top/crates/memory_calls" && rt run <stdin) >"$scratch/said" 2>&1; then
+        cat "$scratch/said" >&2
+        echo 'memory_calls was not built' >&2
+        exit 2
+    fi
+}
 
 # The inputs, and for each the calls that allocate nothing, and those that allocate, one a line.
 inputs=()
@@ -493,9 +510,9 @@ refuse() {
 process() {
     local calls=${2%$'\n'} file
     processes=$((processes + 1))
-    printf -v file '%s/cases/%04d_%s' "$scratch" "$processes" "${1// /_}"
-    printf '%s %s\n%b' "$((2 - $4))" "${calls//$'\n'/, }" "$3" >"$file"
-    printf '%b%s more\n' "$5" "$6" >"$file.stdout"
+    printf -v file '%04d_%s' "$processes" "${1// /_}"
+    printf '%s %s\n%b' "$((2 - $4))" "${calls//$'\n'/, }" "$3" >"$scratch/cases/$file"
+    printf '%b%s more\n' "$5" "$6" >"$scratch/wanted/$file"
 }
 
 # Moves the first COUNT calls from `waiting`, which allocate nothing, to `between`, one a line, and sets
@@ -513,7 +530,7 @@ take() {
 # Adds the processes for all calls on the input of this number: `processes_on NUMBER`. Each process makes
 # a call that succeeds and then one whose first allocation fails; the former is the one that failed in
 # the process before, and in the first process the last one. The calls that allocate nothing come
-# between, the same number in each process, since `rt try` takes at most 1 MiB of output from one.
+# between, the same number in each process.
 processes_on() {
     local number=$1 input=${inputs[$1]}
     local waiting=() calls=() between printed call previous place share
@@ -539,20 +556,44 @@ processes_on() {
     done
 }
 
+# Runs the program on a case so that its allocation of this number fails: `run_case REFUSED CASE`. It stores
+# what is printed in $scratch/printed, and the size of each allocation in $scratch/requests.
+run_case() {
+    REFUSED=$1 LD_PRELOAD=$scratch/requests.so "$program" <"$scratch/cases/$2" >"$scratch/printed" \
+        2>"$scratch/said" 9>"$scratch/requests"
+}
+
+# Sets `refused` to the number of the third allocation of `main`. The three that the program makes at its end
+# are the only ones of `main` here, so it is the number of all.
+find_refused() {
+    printf '0 utf16_len cesu8\na' >"$scratch/cases/none"
+    run_case 0 none || { cat "$scratch/said"; exit 2; }
+    refused=$(wc -l <"$scratch/requests")
+    rm "$scratch/cases/none"
+}
+
+# Runs every case, and compares what is printed.
+run_cases() {
+    local name status
+    for name in $(cd "$scratch/cases" && printf '%s\n' *); do
+        status=0
+        run_case "$refused" "$name" || status=$?
+        if ((status == 0)) && cmp -s "$scratch/wanted/$name" "$scratch/printed"; then
+            pass
+        else
+            wrong "$name: status $status"
+            echo "  printed: $(shown "$scratch/printed")"
+            echo "  and not: $(shown "$scratch/wanted/$name")"
+        fi
+    done
+}
+
 processes=0
 for number in "${!inputs[@]}"; do
     processes_on "$number"
 done
-
-# `rt try` also runs the interpreter, which cannot run these programs, so it gets a single step.
-(cd "$top/crates/memory_calls" && rt try --fail-alloc 3 --steps 1 --cases "$scratch/cases") \
-    </dev/null >"$scratch/output" 2>&1
-
-# The output of a process that failed is on a line of its own. If no process ran, the output says why.
-passed=$(grep -a -c '^case=[^ ]* run=ended status=0 .*output=expected' "$scratch/output")
-failed=$((processes - passed))
-if ((failed > 0)); then
-    echo 'wrong:'
-    grep -a -v -e 'output=expected' -e '^allocations: ' "$scratch/output" | cut -c 1-400
-fi
+build_calls
+quietly cc -shared -fPIC -o "$scratch/requests.so" "$top/tests/requests.c" -ldl || exit 2
+find_refused
+run_cases
 finish
