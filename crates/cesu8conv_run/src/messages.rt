@@ -34,8 +34,8 @@ pub fn explain(
                 let ahead = &window[..(*ahead).min(window.len())];
                 let _ = say_damage(rt, conversion, input, *offset, ahead);
                 let right = output.written;
-                // Instead of a regular file only a draft was written, and `run_conversion` prints
-                // that the file is not written.
+                // Instead of a regular file only a draft was written, and `give_up` prints that the
+                // file is not written.
                 if options.output.is_none() {
                     let _ = eprintln!(rt; "cesu8conv: {right} bytes of output are right");
                 }
