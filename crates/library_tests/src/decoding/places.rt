@@ -2,7 +2,7 @@
 //! plain decoder.
 
 use crate::asserts::{assert_readings, inserted};
-use crate::rows::ROWS;
+use crate::decoding::rows::ROWS;
 use std::alloc::Global;
 use std::ops::Range;
 use std::process::Abort;

@@ -1,5 +1,8 @@
 //! Tests of `cesu8_stream`.
 
-mod cuts;
+mod calls;
+mod damaged;
 mod lossy;
+mod malformed;
+mod pairs;
 mod windows;

@@ -107,8 +107,8 @@ fn first_wrong_place(fill: u8, lengths: Range<usize>) -> Option<(usize, usize, u
 }
 
 /// Asserts that no kernel is wrong in input of these lengths that is filled with a byte. The work
-/// for a length grows with its square. So the tests below divide the lengths unevenly, to take about
-/// equally long.
+/// for a length grows with its square. So the tests below divide the lengths unevenly, and take
+/// about equally long.
 fn assert_found(rt: &impl Abort, fill: u8, lengths: Range<usize>) {
     let wrong = first_wrong_place(fill, lengths);
     assert_of(rt, wrong.is_none(), &wrong);

@@ -1,6 +1,6 @@
 //! Encoding to buffers of each length up to one byte more than is needed.
 
-use crate::asserts::{ascii_with, assert_same, text_of};
+use crate::asserts::{ascii_with, assert_same_text, text_of};
 use std::alloc::Global;
 use std::ops::Range;
 use std::process::Abort;
@@ -16,7 +16,7 @@ use test_cases::slices::{SliceCall, expect_in_rooms};
 fn assert_in_each_room(rt: &impl Abort, alloc: Global, flavor: Flavor, text: &str, bytes: &[u8]) {
     let rooms = 0..bytes.len().saturating_add(2);
     let compared = expect_in_rooms(alloc, flavor, SliceCall::Encode(text), Some(bytes), rooms);
-    assert_same(rt, compared, &[text]);
+    assert_same_text(rt, compared, text);
 }
 
 /// Asserts what the call leaves for a scalar value, in one encoding.
@@ -73,7 +73,7 @@ fn assert_pattern(rt: &impl Abort, alloc: Global, flavor: Flavor, rooms: Range<u
     let bytes = repeated(alloc, encoded_pattern(flavor), 819).expect(rt, "its encoding");
     let call = SliceCall::Encode(str::from_utf8(&utf8).unwrap_or(""));
     let compared = expect_in_rooms(alloc, flavor, call, Some(&bytes), rooms);
-    assert_same(rt, compared, &["the pattern"]);
+    assert_same_text(rt, compared, "the pattern");
 }
 
 /// The results have 19,656 and 20,475 bytes. A buffer is empty, or has about as many.

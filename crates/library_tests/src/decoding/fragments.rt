@@ -2,7 +2,7 @@
 //! the same in each run.
 
 use crate::asserts::assert_readings;
-use crate::rows::ROWS;
+use crate::decoding::rows::ROWS;
 use std::alloc::{AllocError, Global};
 use std::process::Abort;
 use test_cases::fills::FILLS;

@@ -2,7 +2,8 @@
 //! each offset around the end of the first window.
 
 use crate::asserts::assert_of;
-use crate::stream::cuts::{CHARACTERS, DAMAGED};
+use crate::stream::calls::CHARACTERS;
+use crate::stream::damaged::DAMAGED;
 use crate::stream::lossy::is_read;
 use std::alloc::{AllocError, Global};
 use std::process::Abort;

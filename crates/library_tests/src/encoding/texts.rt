@@ -1,6 +1,6 @@
 //! Short strings, with each call that encodes or appends.
 
-use crate::asserts::{assert_of, assert_same, text_of};
+use crate::asserts::{assert_of, assert_same_text, text_of};
 use std::alloc::Global;
 use std::process::Abort;
 use std::str;
@@ -31,9 +31,9 @@ static TEXTS: [(&str, [&[u8]; 2]); 10] = [
 
 /// Asserts what the calls build and append for a string, in one encoding.
 fn assert_text(rt: &impl Abort, alloc: Global, flavor: Flavor, text: &str, bytes: &[u8]) {
-    assert_same(rt, expect_encoding(alloc, flavor, text, bytes), &[text]);
+    assert_same_text(rt, expect_encoding(alloc, flavor, text, bytes), text);
     let appended = expect_appended(alloc, flavor, b"\x01\x02", text, bytes);
-    assert_same(rt, appended, &[text]);
+    assert_same_text(rt, appended, text);
 }
 
 #[test]
@@ -47,7 +47,7 @@ fn encodes_texts(rt: HostRuntime) {
 /// Asserts what the calls build for a scalar value, in one encoding.
 fn assert_border(rt: &impl Abort, alloc: Global, flavor: Flavor, border: &Border) {
     let compared = expect_encoding(alloc, flavor, text_of(border), border.encoded(flavor));
-    assert_same(rt, compared, &[border.name]);
+    assert_same_text(rt, compared, border.name);
 }
 
 #[test]
@@ -98,7 +98,7 @@ fn makes_few_requests(rt: HostRuntime) {
 /// Asserts the encodings of a string of two bytes.
 fn assert_encoded(rt: &impl Abort, alloc: Global, flavor: Flavor, text: &str) {
     let bytes = encoded(alloc, flavor, text).expect(rt, "the encoding");
-    assert_same(rt, expect_encoding(alloc, flavor, text, &bytes), &[text]);
+    assert_same_text(rt, expect_encoding(alloc, flavor, text, &bytes), text);
 }
 
 /// Asserts the encodings of two bytes if they are UTF-8, and returns whether they are.

@@ -2,7 +2,7 @@
 //! and a hundred strings of the pattern's widths: characters of one, two, three and four bytes of
 //! UTF-8, then U+0000, then characters of two, three and four, repeated.
 
-use crate::asserts::{assert_of, assert_same};
+use crate::asserts::{assert_of, assert_same_text};
 use std::alloc::{AllocError, Global};
 use std::ops::Range;
 use std::process::Abort;
@@ -42,7 +42,7 @@ fn assert_at(
     let utf8 = among_ascii(alloc, len, character, place).expect(rt, "a text");
     let bytes = among_ascii(alloc, len, changed, place).expect(rt, "its encoding");
     let text = str::from_utf8(&utf8).unwrap_or("");
-    assert_same(rt, expect_encoding(alloc, flavor, text, &bytes), &[text]);
+    assert_same_text(rt, expect_encoding(alloc, flavor, text, &bytes), text);
 }
 
 /// Asserts the encodings of ASCII, with a character inserted at each offset.
@@ -86,7 +86,7 @@ fn assert_both_ways(rt: &impl Abort, alloc: Global, flavor: Flavor, text: &str, 
     assert_of(rt, is_encoded(alloc, flavor, text, bytes), &flavor);
     for decoder in [Decoder::Strict, Decoder::Lenient] {
         let compared = expect_outcome(alloc, decoder, flavor, bytes, Outcome::Owned(text));
-        assert_same(rt, compared, &[text]);
+        assert_same_text(rt, compared, text);
     }
 }
 
