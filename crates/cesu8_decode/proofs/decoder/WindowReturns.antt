@@ -1,6 +1,6 @@
 -- What functions return that write a window. Their proofs find these lemmas by search, so they name
 -- no variable or branch, and a rewritten body keeps its proof.
-use Rattle.std.proofs.Common.{false, ◌≡◌, ℕ, ◌+◌, ◌≤◌, List, [], ◌++◌, take, drop, replicate, length, ap, sym, ◌∙◌, subst, arith, length-drop}
+use Rattle.std.proofs.Common.{false, ◌≡◌, ℕ, ◌+◌, ◌≤◌, List, [], ◌++◌, take, drop, replicate, length, ap, sym, subst, arith, length-drop}
 use Rattle.std.proofs.lemmas.List.{length-take-le, take-take}
 use Rattle.cesu8_text.specs.Encoding.{Flavor}
 use Rattle.cesu8_bytes.specs.Puts.{WritesAt}
