@@ -1,4 +1,5 @@
--- Calls in a row, over pieces of one input.
+-- Calls in a row, over pieces of one input. The last three definitions are the clauses of the
+-- function `laws::in_pieces`, which proves them and does nothing at run time.
 use Rattle.std.specs.Prelude.{◌≡◌, ℕ, List, [], ◌∷◌, ◌++◌, Bool, take, drop}
 use Rattle.std.specs.List.{flat_map}
 use Rattle.simd_cesu8.specs.Text.{IsText, utf8}

@@ -19,6 +19,9 @@ pub const MEMORY: u8 = 3;
 pub const IO: u8 = 4;
 
 /// Says why a conversion stopped, and returns the status.
+///
+/// At damage, `window` begins with what was read from the damage on, and `lines` of the inputs
+/// counts its line ends too.
 pub fn explain(
     rt: &HostRuntime,
     conversion: Conversion,

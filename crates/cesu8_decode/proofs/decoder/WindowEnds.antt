@@ -1,4 +1,5 @@
--- What the masks of a window say about its offsets, and where a window ends.
+-- What the masks of a window say about its offsets, and where a window ends. The masks cover `n`
+-- offsets; the bytes after these, 5 at most, end the last character.
 use Rattle.std.proofs.Common.{◌≡◌, ℕ, ◌+◌, ◌-◌, ◌<◌, ◌≤◌, ⊎_elim, true, false, List, length, get_or, ap, ◌∙◌, arith}
 use Rattle.std.specs.Int.{bit_at, trailing_zeros, w64}
 use Rattle.std.proofs.lemmas.Bool.{cases_lt, ne_eqb}

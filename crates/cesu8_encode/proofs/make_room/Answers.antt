@@ -3,6 +3,7 @@
 -- by hand is rejected.
 use Rattle.cesu8_encode.proofs.make_room.Goals as goal
 
+-- `full` says something of an error only, and this branch returns `Ok`, so `tt` proves it.
 pub returns-then-len-capacity-clause-full : goal.returns-then-len-capacity-clause-full
 returns-then-len-capacity-clause-full c = tt
 

@@ -1,4 +1,7 @@
 //! The number of UTF-16 code units of a string.
+//!
+//! The lengths reach each path of the count: up to 64 bytes, whole vectors of 64 and a rest (to 144
+//! bytes), and blocks of 1,024 bytes with rests of many lengths (to 4,400 bytes, and at 16,380).
 
 use crate::asserts::{ascii_with, assert_of, text_of};
 use std::alloc::Global;
