@@ -2,10 +2,10 @@
 # which the times are stored.
 # shellcheck shell=bash disable=SC2154
 
-# Stores every five seconds how much processor time each check of `rt ci` has taken, until it is ended, in
-# lines PROCESS TICKS PART: `note_checks TREE ROOM`, the folder in which `rt ci` runs, and the one in which it
-# makes copies of some crates. The time of a check after the last such line is not counted, nor a process
-# that takes less than half a second.
+# Stores every five seconds, until it is killed, how much processor time each check of `rt ci` has
+# taken, in lines PROCESS TICKS PART: `note_checks TREE ROOM`. TREE is the folder in which `rt ci`
+# runs, and ROOM the one in which it makes copies of some crates. The time of a check after the last
+# such line is not counted, nor a process that takes less than half a second.
 note_checks() {
     local process ticks hertz
     local -A part=()
@@ -32,7 +32,8 @@ list_processes() {
     '
 }
 
-# The crate that a process of `rt ci` works for, and at what, or `none`: `part_of PID TREE ROOM`.
+# Prints for which crate a process of `rt ci` works, and whether it proves or tests that crate.
+# Prints `none` for any other process: `part_of PID TREE ROOM`.
 part_of() {
     local at words
     {
@@ -74,12 +75,13 @@ note_seconds() {
     echo "$seconds $1" >>"$scratch/script_seconds"
 }
 
-# How many ticks the processors had, and how many of them other machines took, since this machine began.
+# Prints how many ticks the processors have had since this machine was started, and how many of them
+# other virtual machines took (steal time).
 processor_ticks() {
     awk '/^cpu / { for (i = 2; i <= 9; i++) all += $i; print all, $9 }' /proc/stat
 }
 
-# Keeps where the account begins.
+# Stores the ticks so far, from which `show_account` counts, and empties the files of times.
 begin_account() {
     read -r first_ticks first_stolen < <(processor_ticks)
     : >"$scratch/checks"

@@ -1,5 +1,6 @@
-# How the gate tries the edits of must-fail. .ci/run sources this file, and first sets `scratch`, a folder in
-# which the copy `scripts` of the tree has the libraries, and `proved` a file for each that is proved.
+# How the gate tries the edits of must-fail. .ci/run sources this file, and first sets `scratch`. In
+# that folder, `scripts` is a copy of the tree in which the libraries are proved, and `proved` has a
+# file for each crate that is proved already.
 # shellcheck shell=bash disable=SC2154
 #
 # Most of a check is loading, so one check tries several edits at once, a round. rounds.awk makes the rounds,
@@ -89,7 +90,8 @@ are_proved() {
 }
 
 # Makes a tree in which a crate is checked over the proved libraries, with what was kept of its own proof:
-# `make_tree CRATE`. Files of libraries get a second name in place of a copy, where they can.
+# `make_tree CRATE`. The files that `rt` built of proved libraries are hard links if possible, and
+# otherwise copies.
 make_tree() {
     local tree=$scratch/rounds/$1 from=$scratch/scripts crate
     mkdir -p "$tree"
@@ -183,7 +185,7 @@ lay_lines() {
     cut -f 1 "${lines[@]}" | sort -u >"$plan/files"
     while read -r file; do
         print_changed "$file" "$scratch/scripts/crates/$crate/$file" "${lines[@]}" >"$plan/file"
-        # The file may be the second name of one in the copy, so it is replaced.
+        # This replaces the file. Writing into it would also change any hard link to it.
         mv "$plan/file" "$tree/$file"
     done <"$plan/files"
 }

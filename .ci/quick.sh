@@ -1,5 +1,6 @@
-# The check before a push, `.ci/run --quick`. .ci/run sources this file, and first sets `scratch`, a folder
-# for temporary files.
+# The check before a push, `.ci/run --quick`. .ci/run sources this file, and first sets `scratch`, a
+# folder for temporary files. Functions that are not defined here are in .ci/run, edits.sh or
+# account.sh.
 #
 # It compares this tree with a commit, and tests less than the gate, so only the gate decides. It starts from
 # what `rt` has kept in the `out` folders of this clone. Then it

@@ -17,8 +17,8 @@
 # which no function calls another one, if there is such a round. The names alone do not show that for sure, so
 # no new round is made for it.
 #
-# An edit is applied as `rt must-fail` does: each old text is in its file exactly once, after the pairs
-# before. It changes lines in place, and adds none.
+# An edit is applied as `rt must-fail` applies it: each old text has to be in its file exactly once,
+# after the preceding pairs were applied. It changes lines in place, and adds none.
 
 BEGIN {
     for (i = 1; i < ARGC; i++) {
@@ -32,7 +32,7 @@ BEGIN {
     for (i = 1; i <= rounds; i++) print members[i] > (to "/rounds")
 }
 
-# Applies an edit's pairs to `now`, and returns why it can't.
+# Applies an edit's pairs to `now`, the lines of its files, and returns why it can't.
 function apply(edit,    line, path, old, pairs, why) {
     delete now
     delete paths
@@ -57,7 +57,8 @@ function apply(edit,    line, path, old, pairs, why) {
     return why == "" && !pairs ? "it has no pair 'old:' and 'new:'" : why
 }
 
-# Begins with a file of the crate as it stands, and returns why it can't.
+# Reads a file of the crate into `was`, once for all edits, and copies it to `now`, once for each
+# edit. Returns why it can't.
 function open(path,    line) {
     if (path !~ /^(src|specs|proofs)\// || ("/" path "/") ~ /\/\.*\//)
         return "'file:' names no file below src/, specs/ or proofs/"

@@ -1,10 +1,11 @@
 #!/usr/bin/env bash
 # Shows by a run that edits are mistakes: `.ci/shows.sh [EDIT..]`, all if none is named.
 #
-# A check that rejects an edit does not always show that a goal is false: told.awk says when it does. An edit
-# for which it does not has a line `shows: TEST`, an expression of the language: a call with its input, compared
-# with the wrong result. TEST has to be true for the changed code, and false for the unchanged code. It may use
-# what any crate makes public, `alloc`, and the reader and the writer of cli_tests, as `devices`.
+# A check that rejects an edit does not always show that a goal is false: told.awk says when it
+# does. If it does not, the edit has a line `shows: TEST`, an expression of the language: a call
+# with its input, compared with the wrong result. TEST has to be true for the changed code, and
+# false for the unchanged code. It may use what any crate makes public, `alloc`, and the reader and
+# the writer of cli_tests, as `devices`.
 #
 # Each edit changes a copy of its crate, under another name. The crates through which TEST calls it are copied
 # too, and the unchanged ones are there as well. So the edits do not affect each other, and one `rt try`
@@ -54,7 +55,8 @@ named_in() {
 }
 
 # Copies the crates through which a test of an edit reaches its change, with the change, under names that
-# end in a number. Sets `renamed` to the exchange of the names: `copy_changed EDIT NUMBER TEST`.
+# end in a number. Sets `renamed` to the sed commands that change the names:
+# `copy_changed EDIT NUMBER TEST`.
 copy_changed() {
     local crate=${1#crates/} name=${1##*/} plan=$tree/$2 needed=' ' changed=() file it
     crate=${crate%%/*}

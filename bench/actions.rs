@@ -1,4 +1,4 @@
-//! The calls that are measured, and the two encodings.
+//! The calls that are measured, and the two encodings, for both programs: driver.rs and plain.rs.
 
 #[derive(Clone, Copy, PartialEq, Eq, PartialOrd, Ord)]
 pub enum Flavor {

@@ -4,6 +4,7 @@ pub use crate::actions::{ACTIONS, Action, Flavor};
 use std::ffi::{CStr, CString, c_char, c_int, c_void};
 use std::mem;
 
+/// The result of a call: `measured_outcome` of measured.h, which says what the fields mean.
 #[repr(C)]
 #[derive(Clone, Copy)]
 pub struct Outcome {

@@ -51,7 +51,8 @@ struct Group<'a> {
     grids: Vec<Grid<'a>>,
 }
 
-/// Prepares all tables. This compares each call with the plain codec; it is timed later.
+/// Prepares all tables. This compares the result of each call with that of the plain codec of
+/// expected.rs. The calls are timed later.
 fn groups(codecs: &[Codec]) -> Result<Vec<Group<'_>>, String> {
     let group = |title, grids| Group { title, grids };
     Ok(vec![

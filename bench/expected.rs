@@ -78,6 +78,7 @@ pub fn expected(action: Action, flavor: Flavor, input: &[u8]) -> Option<Vec<u8>>
         Action::Encode | Action::EncodedLength => {
             Some(encoded(flavor, str::from_utf8(input).ok()?))
         }
+        // If the whole input is UTF-8, the lenient calls return it unchanged.
         Action::Decode | Action::DecodeLossy if is_utf8 => Some(input.to_vec()),
         Action::Decode | Action::DecodeStrict => strictly_decoded(flavor, input),
         // The lossy reading of a valid encoding is the strict one, which is faster to compute.

@@ -79,6 +79,7 @@ def cells(path):
 
 def add(found, title, name, heads, values):
     """Adds a row. Its columns are lengths, or for 16,380 bytes the two encodings."""
+    # `what` is the rest of a table's title, such as "on short strings", and makes the key unique.
     call, what, unit, level = title
     for head, value in zip(heads, map(number, values)):
         if value is not None:

@@ -213,7 +213,7 @@ impl Made {
                     of_any_length(random, 5)
                 })
             }
-            // The first pair is at offset 3, so that even the shortest input contains one.
+            // The first pair is character 3 (from 0), so that even the shortest input contains one.
             Made::OnePairIn97 => encoded_bytes(flavor, length, None, random, |random, place| {
                 match place % 97 {
                     3 => '\u{1F496}',

@@ -1,4 +1,5 @@
-//! The kernels, on ASCII without U+0000 of four lengths.
+//! The kernels, which test whether encoding changes some byte, on ASCII without U+0000 of four
+//! lengths.
 
 use crate::codec::{Call, Codec, KERNELS, Kernel, outcome};
 use crate::grid::{Column, Grid, Unit};

@@ -1,7 +1,7 @@
 #!/bin/sh
 # Proves and builds the static library, then builds the driver and runs it. README.md describes the
-# options. The status is 2 for other arguments, before anything is built. It needs the kit's rt, rustc,
-# objcopy and, for --against, cc.
+# options. If an argument is unknown or lacks its value, the status is 2 and nothing is built. It
+# needs the kit's rt, rustc, objcopy and, for --against, cc.
 set -eu
 
 usage() {

@@ -171,7 +171,8 @@ impl Kind {
         }
     }
 
-    /// Whether the characters are random, so that a branch predictor cannot learn them.
+    /// Whether characters of different lengths follow one another without a short pattern, which a
+    /// branch predictor would learn.
     pub fn is_by_chance(self) -> bool {
         matches!(
             self,

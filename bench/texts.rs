@@ -11,8 +11,8 @@ pub fn heading(flavor: Flavor) -> String {
     format!("`{}` of a text, in GB/s", path(Action::Encode, flavor))
 }
 
-/// Whether a kind is measured at this length. Texts that repeat a pattern are measured at one length,
-/// except ASCII.
+/// Whether a kind is measured at this length. If its characters have one length, or lengths in a
+/// short pattern, one length of texts is enough, or two for ASCII.
 fn is_measured(kind: Kind, length: usize) -> bool {
     length == 16_380 || kind.is_by_chance() || length == 24 && kind == Kind::Ascii
 }

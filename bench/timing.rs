@@ -20,8 +20,8 @@ const LEAST_TEXTS_REPEATS: u32 = 16;
 /// Inputs of this many bytes or more are measured in fewer rounds.
 const LONG: usize = 1 << 20;
 
-/// Long inputs are measured in one round of `LONG_DISTANCE`. Sets of many inputs, and texts, are
-/// measured in one round of `MANY_DISTANCE`.
+/// Long inputs are measured in one of `LONG_DISTANCE` rounds. Sets of many inputs, and texts, are
+/// measured in one of `MANY_DISTANCE` rounds.
 const LONG_DISTANCE: u32 = 100;
 const MANY_DISTANCE: u32 = 4;
 
@@ -35,7 +35,7 @@ pub struct Measured {
     /// The least duration of a batch, and the number of runs in it.
     enough: Duration,
     repeats: u32,
-    /// It is measured in one round of this many.
+    /// It is measured in one of this many rounds.
     distance: u32,
     /// The least time of a run in each measurement, in seconds.
     bests: Vec<f64>,

@@ -1,5 +1,5 @@
-//! Tests of what `cesu8_bytes` does beside its contracts. They stand in a crate of their own, since
-//! a crate with tests is proved twice.
+//! Tests of what no contract of `cesu8_bytes` says. They are in a crate of their own, since `rt ci`
+//! proves a crate with tests twice.
 #![tactic(auto)]
 
 #[cfg(test)]

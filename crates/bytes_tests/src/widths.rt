@@ -1,3 +1,6 @@
+//! Tests that `any_by_widths` calls its fallback if and only if a single byte is left after the
+//! vectors of 64, 32, 16, 8, 4 and 2 bytes.
+
 use cesu8_bytes::lanes::class::{Either, FourByteLead, Null};
 use cesu8_bytes::lanes::widths::any_by_widths;
 

@@ -1,3 +1,6 @@
+//! Tests which words `test_word_any` tests, and which bytes `zero_marks` marks. Their contracts say
+//! only whether some byte is found.
+
 use cesu8_bytes::words::{contains_four, test_word_any, zero_marks};
 use std::cell::Cell;
 
@@ -61,8 +64,8 @@ fn has_marks(bytes: [u8; 8], marks: u64) -> bool {
     zero_marks(u64::from_le_bytes(bytes)) == marks
 }
 
-/// The borrow passes through bytes 01. A byte 81 is not marked, because its high bit was set
-/// before.
+/// The subtraction at a byte 00 borrows, and the borrow passes through bytes 01, which are then
+/// marked too. A byte 81 is not marked, because its high bit was set before.
 #[test]
 fn marks_bytes_above_a_zero(rt: HostRuntime) {
     assert!(rt; has_marks([0, 1, 1, 1, 1, 1, 1, 1], 0x8080_8080_8080_8080));

@@ -1,4 +1,4 @@
--- Lists of bytes, vectors and words, without reference to an encoding.
+-- Lists of bytes, and their parts as chunks, vectors and words.
 pub mod Walks
 pub mod EightElements
 pub mod Ends

@@ -2,10 +2,12 @@
 use Rattle.std.specs.Prelude.{◌≡◌, ℕ, zero, suc, ◌+◌, ◌/◌, ◌%◌, ◌-◌, ◌<◌, ◌==◌, if◌then◌else◌, Bool, List, [], ◌∷◌, ◌++◌, length, map, slice_index, slice_index_or, replicate}
 
 -- What is written for a byte: U+FFFD if it is ill-formed, nothing if it is dropped, and otherwise
--- the byte. The two tests are given as lists for a list of bytes.
+-- the byte.
 abbrev pub written_for : Bool → Bool → ℕ → List ℕ
 written_for dropped ill_formed b = if ill_formed then 0xEF ∷ 0xBF ∷ 0xBD ∷ [] else if dropped then [] else b ∷ []
 
+-- What is written for a list of bytes. The first list says which bytes are dropped, and the second
+-- which are ill-formed.
 abbrev pub written : List Bool → List Bool → List ℕ → List ℕ
 written [] ill_formed bytes = []
 written (g ∷ dropped) [] bytes = []
@@ -13,8 +15,8 @@ written (g ∷ dropped) (d ∷ ill_formed) [] = []
 written (g ∷ dropped) (d ∷ ill_formed) (b ∷ bytes) = written_for g d b ++ written dropped ill_formed bytes
 
 -- The lanes that packing keeps, for n bytes from lane i on. Bit 0 of the first number says whether
--- the first of them is dropped, and that of the second whether it is ill-formed. Lanes 4 to 6 have
--- U+FFFD, so only four bytes can be packed if one may be ill-formed.
+-- the first of them is dropped, and bit 0 of the second whether it is ill-formed. If bytes may be
+-- ill-formed, `cesu8_decode` packs only four at once, and lanes 4 to 6 have U+FFFD.
 abbrev pub kept_of : ℕ → ℕ → ℕ → ℕ → List ℕ
 kept_of dropped ill_formed i zero = []
 kept_of dropped ill_formed i (suc n) =

@@ -1,7 +1,7 @@
 -- Fewer than sixteen bytes as one vector, made of their first and their last bytes: the result of
--- `ends` in `lanes/padded.rt`. Each width n is more than half of the length, or half of it, so the
--- two ends have all bytes. The bytes in the middle can be in both ends: `IN_ENDS` there selects
--- each byte once. An offset after the end counts as a zero, so the vector of no bytes is all zeros.
+-- `ends` in `lanes/padded.rt`. The width n of an end is more than half of the length, so the two
+-- ends have all bytes. The bytes in the middle are in both ends: `IN_ENDS` there selects each byte
+-- once. An offset after the end counts as a zero, so the vector of no bytes is all zeros.
 use Rattle.std.specs.Prelude.{ℕ, ◌*◌, ◌-◌, nat_le, if◌then◌else◌, List, ◌++◌, length, take, drop, map, replicate, slice_index}
 use Rattle.std.specs.List.{range_with_len}
 

@@ -11,6 +11,7 @@ pub record HasPair (bytes : List ℕ) : Type 0 where
   pub ends : EndsPair (slice_index bytes 2) (slice_index bytes 3) (slice_index bytes 4) (slice_index bytes 5)
 
 -- If these four bytes have the digits of a surrogate pair, `written` is the UTF-8 of its character.
+-- The digits w, x, y and z are the bits that differ from pair to pair (`IsPair`).
 abbrev pub IsUtf8OfDigits : List ℕ → List ℕ → Type 0
 IsUtf8OfDigits four written = (c w x y z : ℕ) → IsPair c w x y z → four ≡ (0xA0 + w) ∷ (0x80 + x) ∷ (0xB0 + y) ∷ (0x80 + z) ∷ [] →
     written ≡ utf8_of c

@@ -26,7 +26,7 @@ pub record PutsAnswer (answer : List ℕ) (result : Result ℕ NoRoom) (old new 
   pub written : IfOk result (λ len. StandsAtFront answer len old new)
   -- It is written if and only if it fits.
   pub fits : IsOk result ↔ length answer ≤ length old
-  -- If it does not fit, the function returns its exact length,
+  -- If it does not fit, the error has its exact length.
   pub needed : IfErr result (λ no_room. no_room.needed ≡ length answer)
-  -- and the buffer is unchanged.
+  -- If it does not fit, the buffer is unchanged.
   pub unchanged : OnErr result (new ≡ old)

@@ -12,7 +12,8 @@
 //! | none | does any byte change in the encoding? | encoding |
 //!
 //! "Unchanged" means that the byte is the same in UTF-8 and in the encoding: in CESU-8 all ASCII
-//! is, in MUTF-8 all but 00. `cesu8_encode` also chooses by length, up to a block.
+//! is, in MUTF-8 all but 00. For at most a block (32 bytes), `encode_to_slice` makes the last check
+//! by `may_need_encoding`.
 
 ghost use Rattle.std.specs.Prelude.{◌↔◌, IsTrue, Any, take};
 ghost use Rattle.std.specs.Str.{chars, IsAscii};

@@ -11,7 +11,8 @@ use Rattle.cesu8_bytes.specs.Pairs.{HasPair, word_of}
 use Rattle.cesu8_text.proofs.text.Shapes.{IsPair, utf8_of_pair}
 use Rattle.cesu8_bytes.proofs.lists.Classes.{continues_by_bits}
 
--- Masking a word masks each of its bytes.
+-- Masking a word masks each of its bytes a, b, d, e, g and h. `more` has the last two, which the
+-- mask clears.
 masked : (a b d e g h more : ℕ) → a < 0x100 → b < 0x100 → d < 0x100 → e < 0x100 → g < 0x100 → h < 0x100 →
     bit_and (word_of a b d e g h more) 0xC0F0FFC0F0FF
     ≡ a + bit_and b 0xF0 * 0x100 + bit_and d 0xC0 * 0x10000 + e * 0x1000000 + bit_and g 0xF0 * 0x100000000 + bit_and h 0xC0 * 0x10000000000
@@ -50,7 +51,8 @@ word_decides bytes more byte =
       (λ pair. grind (arith, nat_tests, common_steps, eqb-true, byte, is, second, third, fifth, last)),
     )
 
--- The word of the UTF-8 that is computed from the word of a surrogate pair.
+-- The word of the UTF-8, as `utf8_of_pair` in src/pairs.rt computes it from the word of a surrogate
+-- pair.
 abbrev utf8_word : ℕ → ℕ
 utf8_word word =
     0x808080F0 + bit_and ((word + 0x100) / 2 ^ 10) 0x0F07
@@ -63,7 +65,7 @@ bytes_of_word : (p q r s : ℕ) → p < 0x100 → q < 0x100 → r < 0x100 → s 
 bytes_of_word p q r s p_byte q_byte r_byte s_byte = grind arith
 
 -- The bits of the UTF-8: some digits move down by ten bits, some up by four, and some down by
--- sixteen.
+-- sixteen. The digits are w to z. The word is that of the pair after 0x100 was added, hence 0xA1.
 module _ (a w x e y z more : ℕ) (a_byte : a < 0x100) (w_low : w < 0x10) (x_low : x < 0x40)
     (e_byte : e < 0x100) (y_low : y < 0x10) (z_low : z < 0x40) where
   abbrev word : ℕ

@@ -44,13 +44,15 @@ changed_by_search : (f : Flavor) (null : ℕ → Bool) → null ≡ is_null f �
 changed_by_search Cesu8 null are bytes = ap (λ p. AnyIn (λ b. p b || is_four b) bytes) are
 changed_by_search Mutf8 null are bytes = ap (λ p. AnyIn (λ b. p b || is_four b) bytes) are
 
--- Such a search of a string's bytes finds whether the string needs encoding.
+-- A search of a string's bytes for four-byte leads and changed nulls finds whether the string needs
+-- encoding.
 pub needs_by_search : (f : Flavor) (null : ℕ → Bool) → null ≡ is_null f → (string bytes : List ℕ) (found : Bool) → IsUtf8 string →
     bytes ≡ string → IsTrue found ↔ AnyIn (λ b. null b || is_four b) bytes → IsTrue found ↔ NeedsEncoding f (chars string)
 needs_by_search f null are string bytes found is_utf8 same search =
     needs_by_test f string is_utf8 (IsTrue found) (rw (← same, ← changed_by_search f null are bytes) search)
 
--- If at least `len` elements precede the first one of a class, the first `len` have none of it.
+-- If at least `len` of the first n elements precede the first one of a class, the first `len`
+-- elements have none of it.
 pub none_in_prefix : (class : ℕ → Bool) (xs : List ℕ) (n len run : ℕ) → run ≡ prefix_len (λ b. not (class b)) (take n xs) → len ≤ run →
     AnyIn class (take len xs) → ⊥
 none_in_prefix class xs n len run is enough any =

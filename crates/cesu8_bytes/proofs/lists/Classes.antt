@@ -15,7 +15,7 @@ use Rattle.cesu8_bytes.proofs.lists.Lanes.{ones, equal, below, map_agree, chosen
 abbrev pub marks_of : (ℕ → Bool) → List ℕ → List ℤ
 marks_of class bytes = map (λ b. lane (class b)) bytes
 
--- A lane of all ones is -1 as a signed number.
+-- As a signed number, a lane of all ones is -1, and a lane of 0 is 0.
 lane_of_ones : (t : Bool) → to_z w8 (ones t) ≡ lane t
 lane_of_ones t = grind arith
 
@@ -79,7 +79,7 @@ either_marks p q bytes ps qs of_p of_q =
     ∙ map_agree _ _ bytes (Each1-all (λ b. bit_or (of_z w8 (lane (p b))) (of_z w8 (lane (q b))) ≡ ones (p b || q b)) (λ b. either_ones (p b) (q b)) bytes)
     )
 
--- Three lanes of all ones, joined as in `range_marks`.
+-- Three lanes, each all ones or 0, joined as in `range_marks`.
 range_ones : (s t u : Bool) → bit_or (ones s) (bit_and (ones t) (ones u)) ≡ ones (s || (t && u))
 range_ones s t u = grind arith
 
@@ -114,7 +114,7 @@ bits_of_marks p n bytes marks are long small =
     ap (λ ts. mask_l ts % 2 ^ 64) (tops_of_marks p bytes marks are)
     ∙ mask_l-mod (map p bytes) 64 (omega (arith, length-map bytes p))
 
--- A mask selects between two numbers.
+-- A mask selects one number for the bytes that pass the test, and the other for all others.
 pub chosen_by_marks : (p : ℕ → Bool) (n some other : ℕ) (bytes : List ℕ) (marks : List ℤ) → marks ≡ marks_of p bytes → length bytes ≡ n →
     sel_l (map (top 7) (map (of_z w8) marks)) (replicate n some) (replicate n other) ≡ map (λ b. cond (p b) some other) bytes
 chosen_by_marks p n some other bytes marks are long =

@@ -17,7 +17,8 @@ use Rattle.cesu8_text.specs.Order.{utf16_rank}
 use Rattle.cesu8_text.specs.Text.{IsScalarValue, IsText, utf8, utf8_of}
 use Rattle.cesu8_text.proofs.StdUtf8.{IsUtf8Of_chars}
 
--- If all bytes of a list are below 100 (hexadecimal), so are those of a word after a prefix.
+-- If all bytes of a list are below 100 (hexadecimal), so are those of a word after a prefix. The
+-- proof of `word_at` in src/words.rt cites this.
 pub word_fits : (bytes prefix rest word : List ℕ) → ((i : ℕ) → Fits w8 (get_or bytes i 0)) → bytes ≡ prefix ++ rest → word ≡ take 8 rest →
     (i : ℕ) → get_or word i 0 < 0x100
 word_fits bytes prefix rest word fits bytes_are word_is i = rw word_is (⊎_elim
@@ -56,9 +57,9 @@ abbrev pub differ : ℕ → ℕ → List ℕ → List ℕ → List Bool
 differ at n xs ys = zip2 (λ a b. not (eqb a b)) (chunk at n xs) (chunk at n ys)
 
 module _ (at n : ℕ) (xs ys : List ℕ) (long : at + n ≤ length xs) (other_long : at + n ≤ length ys) where
+  -- `differ` has n lanes.
   differ_long : length (differ at n xs ys) ≡ n
   differ_long =
-      -- The vectors have n lanes.
       length-zip2 (λ a b. not (eqb a b)) (chunk at n xs) (chunk at n ys) (length-chunk at n xs long ∙ sym (length-chunk at n ys other_long))
       ∙ length-chunk at n xs long
 
@@ -126,6 +127,7 @@ low_bytes bytes is_utf8 i inside =
     let low = low_in (chars bytes) of_chars.0 in
     All-get_or (λ b. b < 0xF8) bytes i 0 inside (rw of_chars.1 at low)
 
--- Different bytes below F8 have different ranks.
+-- Different bytes below F8 have different ranks: EE and EF get FE and FF, and the others their own
+-- value.
 pub ranks_differ : (a b : ℕ) → a < 0xF8 → b < 0xF8 → a ≢ b → utf16_rank a ≢ utf16_rank b
 ranks_differ a b low other_low differ same = grind (arith, nat_tests)

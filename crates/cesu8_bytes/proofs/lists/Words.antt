@@ -97,7 +97,7 @@ inverse [] h = refl
 inverse (b ∷ bytes) h = omega (arith, inverse bytes h.1)
 
 -- Some byte of a word is 0 if and only if its marks are not 0. The code computes them by this
--- formula.
+-- formula: adding FEFEFEFEFEFEFEFF (hexadecimal) modulo 2^64 subtracts 0101010101010101.
 pub zero_test : (w : ℕ) → w < 2 ^ 64 →
     (bit_and (bit_and ((w + 0xFEFEFEFEFEFEFEFF) % 2 ^ 64) (0xFFFFFFFFFFFFFFFF - w)) 0x8080808080808080 ≡ 0 → ⊥)
     ↔ Any (λ b. b ≡ 0) (to_le_bytes w64 w)

@@ -110,7 +110,8 @@ pub block_counted : (class : ℕ → Bool) (block : List ℕ) (n : ℕ) (ones fo
     sum_l ones + 2 * sum_l fours ≡ sum_by (weight_of class) block
 block_counted class block n ones fours whole of_class of_four = grind (arith, take_all, weight_by_counts)
 
--- The sum of dot products with ones is the sum of the lanes, and does not overflow.
+-- Each of the n dot products with ones sums four lanes. Their sum is that of all lanes, and does
+-- not overflow.
 module _ (n : ℕ) (few : n ≤ 16) (lanes : List ℕ) (long : length lanes ≡ 4 * n) (fits : Each1 (Fits w8) lanes) where
   dots_total : sum_l (dots lanes (replicate (4 * n) 1)) ≡ sum_l lanes
   dots_total =

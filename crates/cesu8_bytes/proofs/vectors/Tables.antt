@@ -1,5 +1,5 @@
--- A table of 256 shuffles has the rows that it should have, by computation. The modules about the
--- tables cite `rows_by`.
+-- A table of 256 shuffles has the rows that it should have, by computation. The proofs of
+-- `rows_of_eight` and of `doubling_rows` in `cesu8_encode` cite `rows_by`.
 use Rattle.std.proofs.Common.{◌≡◌, ℕ, ◌<◌, Bool, true, false, ◌&&◌, List, [], ◌∷◌, refl, eqb, get_or, eqb-true}
 use Rattle.std.proofs.lemmas.Bool.{agree_below, agree_below_at, and_parts}
 

@@ -1,4 +1,5 @@
-//! The simplest kernels: one byte at a time. `word` calls them for fewer than eight bytes.
+//! The simplest kernels: one byte at a time. `word` calls them for fewer than eight bytes, and
+//! `simd` for a single last byte.
 
 ghost use Rattle.std.specs.Prelude.{IsTrue, ◌↔◌, Any};
 ghost use Rattle.cesu8_text.specs.Class.{IsFour, IsNullFour};

@@ -1,5 +1,5 @@
--- At least `len` lanes precede the first lane that is null or not ASCII, so the first `len` bytes
--- are ASCII and none of them changes.
+-- At least `len` lanes precede the first lane that is a changed null or not ASCII, so the first
+-- `len` bytes are ASCII and none of them changes.
 use Rattle.std.proofs.Common.{arith, take}
 use Rattle.std.proofs.lemmas.Bool.{leb-true}
 use Rattle.cesu8_bytes.proofs.lists.Ascii.{ascii_of_neither, either_of_changed, none_in_prefix}

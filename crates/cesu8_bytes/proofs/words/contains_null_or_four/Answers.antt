@@ -1,5 +1,5 @@
--- A byte of the word is 00 or at least F0 if and only if `zero_marks` finds a 00 or `contains_four`
--- finds the other.
+-- Some byte of the word is 00, or F0 to F7 (hexadecimal), if and only if `zero_marks` finds a 00 or
+-- `contains_four` finds one of the others.
 use Rattle.std.specs.Int.{to_le_bytes, w64}
 use Rattle.std.specs.List.{Any}
 use Rattle.std.proofs.Common.{◌≡◌, ℕ, List, not, ap, arith}
@@ -8,8 +8,8 @@ use Rattle.std.proofs.lemmas.Bool.Decides.{nat_tests}
 use Rattle.cesu8_text.specs.Class.{IsFour, IsNullFour}
 use Rattle.cesu8_bytes.proofs.words.contains_null_or_four.Goals as goal
 
--- If some byte has a property, and each byte with this property is 00 or at least F0, some byte is
--- 00 or at least F0.
+-- If some byte has a property, and each byte with this property is 00 or F0 to F7, some byte is 00
+-- or F0 to F7.
 counts : (P : ℕ → Type 0) → ((byte : ℕ) → P byte → IsNullFour byte) → (bytes : List ℕ) → Any P bytes → Any IsNullFour bytes
 counts P is bytes (k, byte, inside, same, has) = (k, byte, inside, same, is byte has)
 

@@ -1,5 +1,5 @@
--- The prover finds this proof by itself too. It is given here for an edit of must-fail that makes
--- the goal false: this search fails sooner than the prover's own.
+-- The prover finds this proof by itself too. It is given here for `fallback_is_always_true.edit`,
+-- which makes the goal false: this search fails sooner than the prover's own.
 use Rattle.std.proofs.Common.{rules}
 use Rattle.cesu8_bytes.proofs.implementation.fallback.contains_utf8_4_byte_char_header.Goals as goal
 

@@ -1,5 +1,5 @@
--- The weights of the blocks so far, of the next block and of the rest are together those of the
--- whole. A byte weighs at most two, so the sums do not overflow.
+-- The weights of the blocks so far, of the next block (1,024 bytes) and of the rest are together
+-- those of the whole. A byte weighs at most two, so the sums do not overflow.
 use Rattle.std.proofs.Common.{arith}
 use Rattle.cesu8_text.specs.Class.{weight_of}
 use Rattle.cesu8_bytes.proofs.vectors.Counts.{weight_bound, sum_by_chunk}

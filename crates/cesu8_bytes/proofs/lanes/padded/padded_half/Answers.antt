@@ -1,5 +1,6 @@
--- Fewer than 16 bytes fill a part of the first half. Otherwise the second half is loaded up to the
--- end of the slice, and the shuffle moves its new bytes to the start and fills the rest with zeros.
+-- Fewer than 16 bytes fill a part of the first half. Otherwise the last 16 bytes of the slice are
+-- loaded for the second half. The shuffle moves those that the first half lacks to the start, and
+-- fills the rest with zeros.
 use Rattle.std.proofs.Common.{◌≡◌, ◌+◌, ◌-◌, ◌++◌, ℕ, List, length, length-append, take, take_all, drop, length-drop, replicate, sym, ap, ◌∙◌, arith, append_assoc, refl, w8}
 use Rattle.std.specs.List.{range_with_len}
 use Rattle.std.proofs.lemmas.List.{replicate-append-replicate, take-append-drop, drop-drop, length-replicate, length-take-le}

@@ -17,6 +17,7 @@ returns-then-any_in_chunks g c _ =
     c.as_chunks.ensures.back c.any_in_chunks.ensures c.if-any_in_chunks.true in
     ((λ _. some), (λ _. refl))
 
+-- In this goal and the next four, a width finds a byte: 32, then 16, 8, 4 and 2.
 pub returns-in_default : goal.returns-in_default
 returns-in_default g c _ =
     let whole = left_by_chunks (λ b. IsTrue (g.C.Class.class b)) 64 c.args.value.now _ _ c.any_in_chunks.result c.as_chunks.ensures.front
