@@ -1,6 +1,7 @@
 -- Character boundaries: offsets that no encoded character crosses, by the widths at the five
 -- offsets before (`is_boundary_at`). Five are enough, since a character has at most six bytes. Each
--- window of the decoder begins at such an offset.
+-- window of the decoder begins at such an offset. A `window` here has five more bytes at its start,
+-- so `is_boundary_at` at i is about offset i + 5 of it, and tests the widths at i to i + 4.
 use Rattle.std.proofs.Common.{◌≡◌, ℕ, ◌+◌, ◌-◌, ◌<◌, ◌≤◌, ◌⊎◌, ⊎_elim, true, List, ◌∷◌, refl, ap, ◌∙◌, subst, arith, length, take, drop, get_or, zero-add, length-drop, eqb}
 use Rattle.std.proofs.lemmas.Bool.{agree_below_at, eqb-true, cases_lt}
 use Rattle.std.proofs.lemmas.List.{take-append-drop, length-take-le}

@@ -149,7 +149,8 @@ covered_in_prefix f prefix back i crosses inside covered =
 
 -- ---- by widths
 
--- A byte that is not ill-formed is covered by a character that begins at one of six offsets.
+-- A byte that is not ill-formed is covered by a character that begins at one of six offsets: w0 is
+-- the width at the byte itself, and w1 to w5 are those at the five offsets before it.
 pub reached : (w0 w1 w2 w3 w4 w5 : ℕ) → ill_formed_by w0 w1 w2 w3 w4 w5 ≡ false →
     (1 ≤ w0) ⊎ ((2 ≤ w1) ⊎ ((3 ≤ w2) ⊎ ((w3 ≡ 6) ⊎ ((w4 ≡ 6) ⊎ (w5 ≡ 6)))))
 reached w0 w1 w2 w3 w4 w5 fine = grind (arith, nat_tests)

@@ -37,7 +37,7 @@ unfolding encoding form units_of
 null_begins f bytes null = grind (arith, nat_tests, long_by)
 
 -- A character of six bytes is a surrogate pair, and the four bytes computed from its digits are its
--- UTF-8.
+-- UTF-8. Its digits are the bits that differ between pairs.
 pub pair_utf8 : (f : Flavor) (bytes four : List ℕ) (c : ℕ) (rest : List ℕ) → BeginsWith f bytes c rest → width f c ≡ 6 → Shape c →
     IsUtf8OfDigits (second_third_fifth_sixth bytes) four → four ≡ utf8_of c
 pair_utf8 f bytes four c rest begins six (one ascii) is_utf8 = absurd (grind (arith, ascii_forms f c ascii))

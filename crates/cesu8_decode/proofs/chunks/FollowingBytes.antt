@@ -14,8 +14,8 @@ use Rattle.cesu8_decode.specs.Prefixes.{AreWhole}
 use Rattle.cesu8_decode.proofs.by_offset.WidthTests.{continuation}
 use Rattle.cesu8_decode.proofs.chunks.WholeBytes.{none_whole, whole_with}
 
--- Byte b may begin a character after byte a, which is no lead byte: so may any byte from C0 on. If
--- it begins none, as FF, the class of the byte after it has an error bit.
+-- Byte b may begin a character after byte a, which is no lead byte. Any byte from C0 on may: if it
+-- begins none, like FF, the class of the byte after it has an error bit.
 pub record MayBegin (f : Flavor) (a b : ℕ) : Type 0 where
   pub no_lead : a < 0xC0
   pub no_continuation : continues b ≡ false
@@ -230,7 +230,7 @@ are_whole s f (suc n) a b d e (g ∷ bytes) few ends all =
     (λ (found : IsSecond s f e g). absurd (omega (arith, found.leads, ends.last)))
     (if_nothing s f e g (grind (arith, nat_tests)))
 
--- After four zeros is a boundary.
+-- The offset after four zeros is a boundary.
 pub start : (s : CharacterSet) → Ends s 0 0 0 0
 start s = grind (arith, nat_tests)
 
