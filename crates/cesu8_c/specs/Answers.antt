@@ -43,7 +43,7 @@ answer_for_lossy_text (Ok len) = record { status = OK; length = len }
 answer_for_lossy_text (Err lossy.TooLong) = record { status = TOO_LONG; length = 0 }
 answer_for_lossy_text (Err (lossy.TooShort fault)) = record { status = TOO_SMALL; length = fault.needed }
 
--- The status is one of these.
+-- The status is one of the list.
 abbrev pub IsAmong : List ℕ → ℕ → Type 0
 IsAmong [] status = ⊥
 IsAmong (one ∷ others) status = (status ≡ one) ⊎ IsAmong others status

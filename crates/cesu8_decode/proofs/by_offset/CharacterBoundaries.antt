@@ -38,7 +38,8 @@ pub boundary_ends : (f : Flavor) (window : List ℕ) (i : ℕ) → is_boundary_a
     width_at f window (i + s) + s ≤ 5
 boundary_ends f window i boundary s small = grind (arith, nat_tests)
 
--- If each of these characters ends there, the offset is a boundary.
+-- If each character that begins at one of the five offsets before an offset ends at or before it,
+-- the offset is a boundary.
 pub boundary_where : (f : Flavor) (window : List ℕ) (i : ℕ) → ((s : ℕ) → s < 5 → width_at f window (i + s) + s ≤ 5) →
     is_boundary_at f window i ≡ true
 boundary_where f window i ends = grind (arith, nat_tests)

@@ -67,7 +67,7 @@ after_ended f bytes w1 w2 w3 w4 w5 p q h1 h2 h3 h4 h5 =
 abbrev Become : Flavor → List ℕ → List ℕ → Type 0
 Become f bytes text = (p q : ℕ) → decoded_after f 0 0 0 0 0 p q bytes ≡ text
 
--- It is also what is written for them after characters that have ended.
+-- What bytes `Become` is also what is written for them after characters that have ended.
 continued : (f : Flavor) (rest text : List ℕ) (w1 w2 w3 p q : ℕ) → Become f rest text → w1 ≤ 1 → w2 ≤ 2 → w3 ≤ 3 →
     decoded_after f w1 w2 w3 0 0 p q rest ≡ text
 continued f rest text w1 w2 w3 p q become h1 h2 h3 =

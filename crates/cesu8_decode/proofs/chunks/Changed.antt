@@ -52,7 +52,7 @@ pair_width f bytes long has_pair =
     let found = found_pair f bytes long has_pair.lead has_pair.high.0 has_pair.high.1 has_pair.ends in
     width_of_first f bytes found.character found.rest found.begins ∙ found.encoded
 
--- If these four bytes are appended for a surrogate pair, it is decoded.
+-- If the four bytes computed from its digits are appended for a surrogate pair, it is decoded.
 pub pair_read : (f : Flavor) (which : Strictness) (bytes old four new : List ℕ) → first_width f bytes ≡ 6 →
     IsUtf8OfDigits (second_third_fifth_sixth bytes) four → new ≡ old ++ four → IsReadSoFar f which bytes (drop 6 bytes) old new
 pair_read f which bytes old four new width_is is_utf8 new_is =

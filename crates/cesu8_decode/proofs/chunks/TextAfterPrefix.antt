@@ -34,7 +34,8 @@ pub otherwise_begins : (f : Flavor) (c : ℕ) (rest : List ℕ) → IsScalarValu
 unfolding encoding form units_of
 otherwise_begins f c rest scalar needs = grind (arith, nat_tests)
 
--- If bytes begin with neither of these, no character whose encoding is not its UTF-8 begins them.
+-- If bytes begin with neither a surrogate pair nor, in MUTF-8, C0 80, no character whose encoding
+-- is not its UTF-8 begins them.
 none_otherwise : (f : Flavor) (bytes : List ℕ) → ¬ (BeginsChanged f bytes) → (c : ℕ) (rest : List ℕ) → IsEncodedOtherwise f c →
     ¬ (BeginsWith f bytes c rest)
 none_otherwise f bytes neither c rest needs begins =
