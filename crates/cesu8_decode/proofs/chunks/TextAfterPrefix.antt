@@ -68,7 +68,7 @@ module _ (f : Flavor) (bytes rest chunk : List ℕ) (read : IsChunk f Strict byt
 chunk_of : (f : Flavor) (bytes rest old new : List ℕ) (so_far : IsReadSoFar f Strict bytes rest old new) → IsChunk f Strict bytes rest (utf8 so_far.text)
 chunk_of f bytes rest old new so_far = grind arith
 
--- Nothing is appended if there is no strict reading.
+-- If there is no strict reading, the error is right: nothing is appended.
 pub none_appended : {Z E : Type 0} (f : Flavor) (which : Strictness) (bytes : List ℕ) (before : Vec ℕ Z) (result : Result (Vec ℕ Z) E) → IsErr result →
     (which ≡ Strict) × HasNoStrictReading f bytes → AppendsReading f which bytes before result
 none_appended f which bytes before (Ok text) err none = absurd (false≢true err)
