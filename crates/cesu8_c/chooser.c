@@ -29,6 +29,7 @@ static uint8_t nothing;
     }
 #endif
 
+// The parameters of a call: one input; two inputs; an input and a buffer; and these with `is_last`.
 #define CHOOSE_TOLD(result, name)                                                                  \
     CHOOSE(result, name, (const uint8_t *input, size_t length), (input ? input : &nothing, length))
 #define CHOOSE_COMPARED(result, name)                                                              \

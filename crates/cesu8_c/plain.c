@@ -5,7 +5,7 @@
 
 const char *cesu8_status_text(uint32_t status)
 {
-    // The same words as the error of that status displays in Rattle, or as cesu8_cli prints.
+    // The words are those of the error for that status in Rattle, or those that cesu8_cli prints.
     switch (status) {
     case CESU8_OK:
         return "ok";

@@ -35,7 +35,8 @@ pub fn utf8_of_pair(bytes: &[u8]) -> [u8; PAIR_UTF8]
     // Adds the plane offset 10000 to the character: one more in the last four bits of the second
     // byte. In a pair that byte is below B0, so nothing is carried.
     let word = first_word(bytes).wrapping_add(0x100);
-    // The leading bits of the four bytes, F0 80 80 80. Each term moves some digits to their places.
+    // The leading bits of the four bytes, F0 80 80 80. Each term moves some of the character's bits
+    // to their places.
     let utf8 = 0x8080_80F0
         + (word >> 10 & 0x0000_0F07)
         + ((word & 0x0003_0300) << 4)

@@ -10,7 +10,8 @@ use Rattle.cesu8_c.specs.declared.answer.TheConstants.{OK, INCOMPLETE, FULL}
 use Rattle.cesu8_c.specs.Answers.{IsAmong}
 use Rattle.cesu8_c.specs.Pieces.{status_of, progress_for, ConvertsPiece, DecodesPiece}
 
--- Different states have different statuses, since `malformed` is one of the statuses 1 to 5.
+-- Different states have different statuses: `malformed`, the status for `Malformed`, is one of 1 to
+-- 5, and the others are 0, 6 and 7.
 same_state : (malformed : ℕ) (state other : State) → 0 < malformed → malformed < 6 →
     status_of malformed state ≡ status_of malformed other → state ≡ other
 same_state malformed state other positive small same = grind arith
@@ -46,7 +47,7 @@ converts_piece from to widest malformed bytes progress old new positive small pi
     among OutputFull = inr (inr (inl refl))
     among Malformed = inr (inr (inr (inl refl)))
 
--- The contract of an export that replaces ill-formed bytes.
+-- The contract of an export that replaces ill-formed bytes. Its state is never `Malformed`.
 pub decodes_piece : (from reading : List ℕ → List ℕ) (is_last : Bool) (malformed : ℕ) (bytes : List ℕ)
     (progress : stream_progress.Progress) (old new : List ℕ) → 0 < malformed → malformed < 6 →
     stream_lossy.DecodesPiece from reading is_last bytes progress old new →

@@ -43,7 +43,7 @@ answer_for_lossy_text (Ok len) = record { status = OK; length = len }
 answer_for_lossy_text (Err lossy.TooLong) = record { status = TOO_LONG; length = 0 }
 answer_for_lossy_text (Err (lossy.TooShort fault)) = record { status = TOO_SMALL; length = fault.needed }
 
--- The status is one of these.
+-- The status is one of the list.
 abbrev pub IsAmong : List ℕ → ℕ → Type 0
 IsAmong [] status = ⊥
 IsAmong (one ∷ others) status = (status ≡ one) ⊎ IsAmong others status
@@ -69,7 +69,7 @@ pub record TellsUtf16Length (text : List ℕ) (answer : Answer) : Type 0 where
   pub counted : IsUtf8 text → answer.length ≡ length (units (chars text))
   pub none : ¬ (IsUtf8 text) → answer.length ≡ 0
 
--- What C gets for an ordering.
+-- What C gets for an ordering: -1 (`negsuc 0`), 0 or 1.
 abbrev pub number_of : Ordering → ℤ
 number_of Less = negsuc 0
 number_of Equal = pos 0
@@ -147,8 +147,9 @@ pub record DecodesLossily (IsReading : List ℕ → Type 0) (answer : Answer) (o
   -- Without a result the whole buffer is unchanged.
   pub unchanged : answer.status ≢ OK → new ≡ old
 
--- The form of a text is written. The status is `NOT_UTF8` for input that is not UTF-8, and
--- `TOO_LONG` for a text without a form.
+-- The form of a text is written: the length of its MUTF-8 in two bytes, and then the MUTF-8. The
+-- status is `NOT_UTF8` for input that is not UTF-8, and `TOO_LONG` for a text without a form, since
+-- its MUTF-8 is too long.
 pub record WritesForm (text : List ℕ) (answer : Answer) (old new : List ℕ) : Type 0 where
   pub form : IsUtf8 text → HasForm (chars text) → Places (java_form (chars text)) answer old new
   pub not_utf8 : answer.status ≡ NOT_UTF8 ↔ ¬ (IsUtf8 text)

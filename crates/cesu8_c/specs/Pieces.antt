@@ -24,8 +24,9 @@ progress_for malformed progress = record {
   written = progress.written;
 }
 
--- The contract of a call that converts well-formed input and stops at malformed bytes. A character
--- has at most `widest` bytes in the output.
+-- The contract of a call that converts well-formed input and stops at malformed bytes. `from` gives
+-- the bytes of a text in the input, and `to` those in the output, in which a character has at most
+-- `widest` bytes.
 pub record ConvertsPiece (from to : List ℕ → List ℕ) (widest malformed : ℕ) (bytes : List ℕ) (progress : Progress) (old new : List ℕ) : Type 0 where
   -- The bytes that were read are a text, which was written.
   pub text : Converts from to bytes progress.read progress.written old new
@@ -53,5 +54,6 @@ pub record DecodesPiece (from reading : List ℕ → List ℕ) (is_last : Bool) 
   pub statuses : IsAmong (OK ∷ INCOMPLETE ∷ FULL ∷ []) progress.status
   -- An incomplete character has at most five bytes.
   pub few_left : progress.status ≡ INCOMPLETE → length bytes ≤ progress.read + 5
-  -- With space for four bytes, a full buffer means that at least one byte was read.
+  -- With space for four bytes, the longest character of UTF-8, a full buffer means that at least
+  -- one byte was read.
   pub moves : 4 ≤ length old → progress.status ≡ FULL → 0 < progress.read

@@ -13,7 +13,7 @@ pub const NOT_UTF8: u32 = 1;
 pub const INVALID: u32 = 2;
 /// The input ends before the two bytes of the count, or before the bytes that they count.
 pub const TRUNCATED: u32 = 3;
-/// The length of the result does not fit its count.
+/// The result has more bytes than a Java string or a `usize` can count.
 pub const TOO_LONG: u32 = 4;
 /// The result is longer than the buffer.
 pub const TOO_SMALL: u32 = 5;

@@ -65,7 +65,8 @@ pub extern "C" fn cesu8_java_read_lossy(bytes: &[u8], buf: &mut [u8]) -> Reading
 }
 
 /// Splits the input after the count: returns the bytes after the first two, and the count of the
-/// string's bytes. Returns `None` if there are fewer bytes than they count.
+/// string's bytes. Returns `None` if there are fewer than two bytes, or fewer after them than they
+/// count.
 fn split_count(bytes: &[u8]) -> Option<(&[u8], usize)>
     ensures counted { IfSome result (λ front. take front.1 front.0.now ≡ counted bytes.now) }
     ensures count { IfSome result (λ front. front.1 ≡ count_in bytes.now) }

@@ -6,6 +6,9 @@
 //! calls, for input that comes in pieces, write as much as fits, and return a status, how many
 //! bytes they read and how many they wrote. No call allocates memory. The calls here are for
 //! CESU-8, those of [`mutf8`] for MUTF-8, and those of [`java`] for length-prefixed Java strings.
+//!
+//! The numbers 4 and 6 in the contracts of the `stream` calls are the most bytes of a character in
+//! the output: in UTF-8 and in the encoding.
 #![tactic(auto)]
 
 ghost use Rattle.std.specs.Prelude.{◌≡◌};

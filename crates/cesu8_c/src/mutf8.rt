@@ -1,4 +1,5 @@
-//! The calls for MUTF-8.
+//! The calls for MUTF-8. C passes each slice as a pointer and a length, and `lib.rt` says what
+//! every call returns, and what the numbers in the contracts of the `stream` calls are.
 
 ghost use Rattle.std.specs.Prelude.{◌≡◌};
 ghost use Rattle.simd_cesu8.specs.Text.{utf8};

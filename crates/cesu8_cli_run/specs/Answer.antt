@@ -45,8 +45,9 @@ IsTextAnswer IsReading (Ok bytes) = (text : List ℕ) × IsReading text × (byte
 IsTextAnswer IsReading (Err (Invalid error)) = (text : List ℕ) → ¬ (IsReading text)
 IsTextAnswer IsReading (Err other) = ⊥
 
--- The form of the text whose UTF-8 the input is. Otherwise the error that its MUTF-8, which has
--- this length, is too long for a form, or that the input is not UTF-8.
+-- The form of the text whose UTF-8 the input is: the length of its MUTF-8 in two bytes, and then
+-- the MUTF-8. Otherwise the error that the MUTF-8, which has this length, is too long for a form,
+-- or that the input is not UTF-8.
 abbrev pub IsJavaWriteAnswer : List ℕ → Result (List ℕ) RunFault → Type 0
 IsJavaWriteAnswer input (Ok bytes) =
     (text : List ℕ) × IsUtf8Of text input × HasForm text × (bytes ≡ java_form text)

@@ -30,7 +30,8 @@ pub fn any_in_bytes<C: InAllVectors + InGroups>(bytes: &[u8]) -> bool
     any_in_long::<C>(bytes)
 }
 
-/// Returns whether some byte of more than 64 is in the class: of a whole vector, or of the last 64.
+/// Returns whether some byte of more than 64 is in the class. It tests the whole vectors, and then
+/// the last 64 bytes, which may overlap them.
 #[inline(always)]
 pub fn any_in_long<C: InGroups>(bytes: &[u8]) -> bool
     requires { LANES < length bytes.now }

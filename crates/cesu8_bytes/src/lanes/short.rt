@@ -10,8 +10,9 @@ use super::class::{InVectors, LANES, has};
 use crate::writing::offsets::put_lanes;
 use std::simd::prelude::*;
 
-/// From 1,024 bytes on, `copy_short` and `append` copy the slice as a whole, in larger steps. If
-/// source and destination may alias for the compiler, up to 127 last bytes are copied one by one.
+/// From 1,024 bytes on, `copy_short` and `append` copy the slice as a whole, in larger steps. This
+/// does not pay for fewer bytes: if the compiler cannot rule out that source and destination alias,
+/// it copies up to 127 last bytes one by one.
 pub(crate) const LONG: usize = 16 * LANES;
 
 /// Returns whether there are at most 64 bytes, which two vectors of one width up to 32 cover.

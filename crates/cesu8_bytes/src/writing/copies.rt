@@ -12,9 +12,10 @@ use std::alloc::{AllocError, Global};
 use std::mem;
 use std::simd::prelude::*;
 
-/// The vector that appends 17 to 64 bytes: four of them cover `LANES`.
+/// The width of the vectors that append 17 to 64 bytes: four of them cover `LANES`.
 const WIDE: usize = 16;
-/// The vector that appends 4 to 16 bytes: four of them cover `WIDE`. Fewer bytes are copied singly.
+/// The width of the vectors that append 4 to 16 bytes: four of them cover `WIDE`. Fewer bytes are
+/// appended one by one.
 const NARROW: usize = 4;
 
 /// Appends bytes to a buffer with enough capacity. Short slices use only two widths of vectors,
@@ -103,8 +104,8 @@ fn append_four<const N: usize>(bytes: &[u8], out: &mut Vec<u8>)
     append_at::<N>(bytes, last, start, out);
 }
 
-/// Replaces what was appended from offset `at` on by the `N` bytes at that offset. The bytes before
-/// it were appended from index `start` on.
+/// Appends the `N` bytes at offset `at`, in place of any that were appended from that offset on.
+/// `start` is the length that the buffer had before any of the bytes was appended.
 #[inline(always)]
 fn append_at<const N: usize>(bytes: &[u8], at: usize, start: usize, out: &mut Vec<u8>)
     requires lanes { (N ≤ LANES) × (at + N ≤ length bytes.now) }

@@ -1,4 +1,5 @@
 -- The contract of `cesu8_stream::decode_lossy_strict`, with a status in place of the state.
+-- `INVALID` is the status for `Malformed`, a state that this call never returns.
 use Rattle.std.proofs.Common.{arith}
 use Rattle.simd_cesu8.specs.Encoding.{Cesu8, encoding}
 use Rattle.simd_cesu8.specs.Reading.{reading}

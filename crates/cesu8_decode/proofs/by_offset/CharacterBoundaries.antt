@@ -1,6 +1,7 @@
 -- Character boundaries: offsets that no encoded character crosses, by the widths at the five
 -- offsets before (`is_boundary_at`). Five are enough, since a character has at most six bytes. Each
--- window of the decoder begins at such an offset.
+-- window of the decoder begins at such an offset. A `window` here has five more bytes at its start,
+-- so `is_boundary_at` at i is about offset i + 5 of it, and tests the widths at i to i + 4.
 use Rattle.std.proofs.Common.{◌≡◌, ℕ, ◌+◌, ◌-◌, ◌<◌, ◌≤◌, ◌⊎◌, ⊎_elim, true, List, ◌∷◌, refl, ap, ◌∙◌, subst, arith, length, take, drop, get_or, zero-add, length-drop, eqb}
 use Rattle.std.proofs.lemmas.Bool.{agree_below_at, eqb-true, cases_lt}
 use Rattle.std.proofs.lemmas.List.{take-append-drop, length-take-le}
@@ -37,7 +38,8 @@ pub boundary_ends : (f : Flavor) (window : List ℕ) (i : ℕ) → is_boundary_a
     width_at f window (i + s) + s ≤ 5
 boundary_ends f window i boundary s small = grind (arith, nat_tests)
 
--- If each of these characters ends there, the offset is a boundary.
+-- If each character that begins at one of the five offsets before an offset ends at or before it,
+-- the offset is a boundary.
 pub boundary_where : (f : Flavor) (window : List ℕ) (i : ℕ) → ((s : ℕ) → s < 5 → width_at f window (i + s) + s ≤ 5) →
     is_boundary_at f window i ≡ true
 boundary_where f window i ends = grind (arith, nat_tests)

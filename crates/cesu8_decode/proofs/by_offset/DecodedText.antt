@@ -1,5 +1,5 @@
--- What is written for bytes, each by its neighbours, is the UTF-8 of their lossy reading: for all
--- bytes, and for the bytes of a window between two boundaries.
+-- What is written for each byte, by the bytes around it, is together the UTF-8 of their lossy
+-- reading: for all bytes, and for the bytes of a window between two boundaries.
 use Rattle.std.proofs.Common.{◌≡◌, ℕ, ◌+◌, ◌*◌, ◌/◌, ◌%◌, ◌<◌, ◌≤◌, eqb, leb, List, [], ◌∷◌, ◌++◌, refl, sym, ap, ◌∙◌, ⊎_elim, arith, true, length, take, drop, get_or, length-drop, zero-add, add-zero, subst}
 use Rattle.std.proofs.lemmas.Bool.{ne_eqb, lt-leb}
 use Rattle.cesu8_text.specs.Text.{IsScalarValue, utf8_of, utf8}
@@ -31,8 +31,8 @@ decoded_after f w1 w2 w3 w4 w5 two_before before (b ∷ bytes) =
 abbrev Alike : ℕ → ℕ → ℕ → Type 0
 Alike n v w = (m : ℕ) → n < m → (eqb v m ≡ eqb w m) × (leb m v ≡ leb m w)
 
--- The width n offsets earlier is never tested against n or less, so such widths give the same
--- result.
+-- The width n offsets earlier is never tested against n or less. So if no greater number
+-- distinguishes two widths there, what is written is equal.
 byte_alike : (w0 v1 v2 v3 v4 v5 w1 w2 w3 w4 w5 p q b : ℕ) → Alike 1 v1 w1 → Alike 2 v2 w2 → Alike 3 v3 w3 → Alike 4 v4 w4 → Alike 5 v5 w5 →
     decoded_byte w0 v1 v2 v3 v4 v5 p q b ≡ decoded_byte w0 w1 w2 w3 w4 w5 p q b
 unfolding decoded_byte
@@ -50,11 +50,12 @@ after_alike f (b ∷ bytes) v1 v2 v3 v4 v5 w1 w2 w3 w4 w5 p q h1 h2 h3 h4 h5 =
     (λ m over. h2 m (omega arith)) (λ m over. h3 m (omega arith)) (λ m over. h4 m (omega arith)) in
     (λ k. here k ++ rest k)
 
+-- A width of at most n is like 0: it fails each test against a greater number.
 ended : (n w : ℕ) → w ≤ n → Alike n w 0
 ended n w small m over =
     (ne_eqb w m (λ e. omega arith) ∙ sym (ne_eqb 0 m (λ e. omega arith)), lt-leb m w (omega arith) ∙ sym (lt-leb m 0 (omega arith)))
 
--- After characters that have ended, what is written for bytes is the same as after none.
+-- Characters that have ended do not change what is written for the bytes after them.
 after_ended : (f : Flavor) (bytes : List ℕ) (w1 w2 w3 w4 w5 p q : ℕ) → w1 ≤ 1 → w2 ≤ 2 → w3 ≤ 3 → w4 ≤ 4 → w5 ≤ 5 →
     decoded_after f w1 w2 w3 w4 w5 p q bytes ≡ decoded_after f 0 0 0 0 0 p q bytes
 after_ended f bytes w1 w2 w3 w4 w5 p q h1 h2 h3 h4 h5 =
@@ -66,7 +67,7 @@ after_ended f bytes w1 w2 w3 w4 w5 p q h1 h2 h3 h4 h5 =
 abbrev Become : Flavor → List ℕ → List ℕ → Type 0
 Become f bytes text = (p q : ℕ) → decoded_after f 0 0 0 0 0 p q bytes ≡ text
 
--- It is also what is written for them after characters that have ended.
+-- What bytes `Become` is also what is written for them after characters that have ended.
 continued : (f : Flavor) (rest text : List ℕ) (w1 w2 w3 p q : ℕ) → Become f rest text → w1 ≤ 1 → w2 ≤ 2 → w3 ≤ 3 →
     decoded_after f w1 w2 w3 0 0 p q rest ≡ text
 continued f rest text w1 w2 w3 p q become h1 h2 h3 =

@@ -149,12 +149,13 @@ covered_in_prefix f prefix back i crosses inside covered =
 
 -- ---- by widths
 
--- A byte that is not ill-formed is covered by a character that begins at one of six offsets.
+-- A byte that is not ill-formed is covered by a character that begins at one of six offsets: w0 is
+-- the width at the byte itself, and w1 to w5 are those at the five offsets before it.
 pub reached : (w0 w1 w2 w3 w4 w5 : ℕ) → ill_formed_by w0 w1 w2 w3 w4 w5 ≡ false →
     (1 ≤ w0) ⊎ ((2 ≤ w1) ⊎ ((3 ≤ w2) ⊎ ((w3 ≡ 6) ⊎ ((w4 ≡ 6) ⊎ (w5 ≡ 6)))))
 reached w0 w1 w2 w3 w4 w5 fine = grind (arith, nat_tests)
 
--- An ill-formed byte is covered by no character that begins at one of these offsets.
+-- An ill-formed byte is covered by no character that begins at one of the six offsets.
 pub not_reached : (f : Flavor) (window : List ℕ) (i : ℕ) → is_ill_formed_at f window i ≡ true → (s : ℕ) → s < 6 →
     width_at f window (i + s) + s < 6
 not_reached f window i ill_formed s small = grind (arith, nat_tests, width_bounds)

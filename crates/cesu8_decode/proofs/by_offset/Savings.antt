@@ -14,11 +14,12 @@ use Rattle.cesu8_decode.proofs.by_offset.WidthTests.{ascii_forms}
 use Rattle.cesu8_decode.proofs.by_offset.SavedTotals.{first_saves, replaced_saves}
 use Rattle.cesu8_text.proofs.reading.Cuttings.{by_reading}
 
--- What a character saves and its UTF-8 together have three times the length of the character.
+-- What a character saves, plus the length of its UTF-8, is three times the length of its encoding.
 abbrev Saves : Flavor → ℕ → List ℕ → Type 0
 Saves f c rest = total_saved f (encoding f (c ∷ []) ++ rest) + length (utf8_of c) ≡ 3 * width f c + total_saved f rest
 
--- This is so for a character whose UTF-8 has n bytes, by its length.
+-- For `Saves` it is enough to compute with n, the length of the UTF-8, and with what `saved`
+-- returns for the length of the encoding and its first byte b.
 by_lengths : (f : Flavor) (c b n : ℕ) (prefix rest : List ℕ) → IsScalarValue c → encoding f (c ∷ []) ≡ b ∷ prefix →
     length (utf8_of c) ≡ n → n + saved (length (b ∷ prefix)) b ≡ 3 * length (b ∷ prefix) → Saves f c rest
 by_lengths f c b n prefix rest scalar same in_utf8 fits = omega (arith, first_saves f c b prefix rest scalar same, ap length same, in_utf8, fits)

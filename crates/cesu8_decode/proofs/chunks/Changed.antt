@@ -37,7 +37,7 @@ unfolding encoding form units_of
 null_begins f bytes null = grind (arith, nat_tests, long_by)
 
 -- A character of six bytes is a surrogate pair, and the four bytes computed from its digits are its
--- UTF-8.
+-- UTF-8. Its digits are the bits that differ between pairs.
 pub pair_utf8 : (f : Flavor) (bytes four : List ℕ) (c : ℕ) (rest : List ℕ) → BeginsWith f bytes c rest → width f c ≡ 6 → Shape c →
     IsUtf8OfDigits (second_third_fifth_sixth bytes) four → four ≡ utf8_of c
 pair_utf8 f bytes four c rest begins six (one ascii) is_utf8 = absurd (grind (arith, ascii_forms f c ascii))
@@ -52,7 +52,7 @@ pair_width f bytes long has_pair =
     let found = found_pair f bytes long has_pair.lead has_pair.high.0 has_pair.high.1 has_pair.ends in
     width_of_first f bytes found.character found.rest found.begins ∙ found.encoded
 
--- If these four bytes are appended for a surrogate pair, it is decoded.
+-- If the four bytes computed from its digits are appended for a surrogate pair, it is decoded.
 pub pair_read : (f : Flavor) (which : Strictness) (bytes old four new : List ℕ) → first_width f bytes ≡ 6 →
     IsUtf8OfDigits (second_third_fifth_sixth bytes) four → new ≡ old ++ four → IsReadSoFar f which bytes (drop 6 bytes) old new
 pair_read f which bytes old four new width_is is_utf8 new_is =

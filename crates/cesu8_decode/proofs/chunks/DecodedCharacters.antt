@@ -24,6 +24,7 @@ use Rattle.cesu8_decode.proofs.chunks.Changed.{pair_utf8, pair_width}
 stands_in_more : (f : Flavor) (prefix more : List ℕ) (p c : ℕ) → p ≤ length prefix → StandsAt f prefix p c → StandsAt f (prefix ++ more) p c
 stands_in_more f prefix more p c inside (rest, begins) = (rest ++ more, grind (arith, drop-append-le p prefix more inside, begins, append_assoc))
 
+-- The bytes from the boundary `at` on are the encoding of `text`, and then `more`.
 module _ (f : Flavor) (bytes : List ℕ) (at : ℕ) (within : at ≤ length bytes) (here : is_boundary_at f (window_of bytes) at ≡ true)
     (text more : List ℕ) (is_text : IsText text) (rest_is : drop at bytes ≡ encoding f text ++ more) where
   abbrev rest : List ℕ

@@ -25,7 +25,7 @@ first_chunk : (f : Flavor) (bytes : List ℕ) (n : ℕ) → NoneCrosses f (take 
     IsChunk f Lossy bytes (drop n bytes) (utf8 (reading f (take n bytes)))
 first_chunk f bytes n crosses = grind (arith, nat_tests, reading_is_text, split, take-append-drop {A = ℕ})
 
--- It is also a chunk in strict decoding, if it is the strict reading of these bytes.
+-- The lossy reading is also a chunk in strict decoding, if it is the strict reading of these bytes.
 strict_first_chunk : (f : Flavor) (which : Strictness) (bytes : List ℕ) (n : ℕ) → IsStrictReading f (take n bytes) (reading f (take n bytes)) →
     IsChunk f which bytes (drop n bytes) (utf8 (reading f (take n bytes)))
 strict_first_chunk f which bytes n reads = grind (arith, nat_tests, chunk_of_text, take-append-drop)
@@ -38,7 +38,7 @@ abbrev pub IsPaddedFor : ℕ → List ℕ → List ℕ → Type 0
 IsPaddedFor n bytes window =
     (k : ℕ) → k < n + 10 → slice_index window k ≡ slice_index (0 ∷ 0 ∷ 0 ∷ 0 ∷ 0 ∷ bytes) k
 
--- A window of all bytes is such a window.
+-- A window of all bytes is padded for each n.
 pub padded_for : (bytes window : List ℕ) (n : ℕ) → IsPadded bytes window → IsPaddedFor n bytes window
 padded_for bytes window n padded k small = padded k
 

@@ -34,7 +34,8 @@ use Rattle.cesu8_decode.proofs.chunks.WholeBytes.{none_outside}
 -- ---- a prefix of whole characters
 
 module _ (s : CharacterSet) (f : Flavor) (bytes : List ℕ) (n : ℕ) (whole : AreWhole s f (take n bytes)) where
-  -- The text of k more bytes begins with a character of the set that begins after the prefix.
+  -- The first character of the text of k more bytes is in the set, and begins right after the
+  -- prefix.
   begins_after : (k : ℕ) (text : List ℕ) → 0 < k → k ≤ length (drop n bytes) → IsText text → encoding f text ≡ take k (drop n bytes) →
       ¬ (Any (IsOutside s f) text) → (c : ℕ) × (rest : List ℕ) × (¬ (IsOutside s f c)) × BeginsWith f (drop n bytes) c rest
   begins_after k [] some fits is_text reads inside =
@@ -46,7 +47,8 @@ module _ (s : CharacterSet) (f : Flavor) (bytes : List ℕ) (n : ℕ) (whole : A
     grind (arith, reads, encoding_cons f c text, append_assoc, take-append-drop k (drop n bytes)),
   )
 
-  -- If no character of the set begins after the prefix, no prefix that is longer is whole.
+  -- If no character of the set begins right after the prefix, no longer prefix is whole characters
+  -- of the set.
   pub greatest_prefix : ((c : ℕ) (rest : List ℕ) → ¬ (IsOutside s f c) → ¬ (BeginsWith f (drop n bytes) c rest)) →
       (m : ℕ) → n < m → m ≤ length bytes → ¬ (AreWhole s f (take m bytes))
   greatest_prefix none m past within other =

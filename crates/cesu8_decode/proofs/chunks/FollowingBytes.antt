@@ -14,8 +14,8 @@ use Rattle.cesu8_decode.specs.Prefixes.{AreWhole}
 use Rattle.cesu8_decode.proofs.by_offset.WidthTests.{continuation}
 use Rattle.cesu8_decode.proofs.chunks.WholeBytes.{none_whole, whole_with}
 
--- Byte b may begin a character after byte a, which is no lead byte: so may any byte from C0 on. If
--- it begins none, as FF, the class of the byte after it has an error bit.
+-- Byte b may begin a character after byte a, which is no lead byte. Any byte from C0 on may: if it
+-- begins none, like FF, the class of the byte after it has an error bit.
 pub record MayBegin (f : Flavor) (a b : ℕ) : Type 0 where
   pub no_lead : a < 0xC0
   pub no_continuation : continues b ≡ false
@@ -127,7 +127,8 @@ crosses_later s a i window = rw (suc-add i 1, suc-add i 2, suc-add i 3) refl
 abbrev pub FollowBefore : CharacterSet → Flavor → List ℕ → ℕ → Type 0
 FollowBefore s f window n = ((k : ℕ) → k < n → follows_at s f window k ≡ true) × (crosses_at s window n ≡ false)
 
--- Bytes that can follow each other by index can do it in turn.
+-- If the first n bytes can follow each other by their index, they can follow each other one after
+-- another.
 in_turn : (s : CharacterSet) (f : Flavor) (a b d e n : ℕ) (bytes : List ℕ) → n ≤ length bytes →
     FollowBefore s f (a ∷ b ∷ d ∷ e ∷ bytes) n → FollowToEnd s f a b d e (take n bytes)
 in_turn s f a b d e zero bytes fits first = (ends_if s a b d e).0 first.1
@@ -140,7 +141,7 @@ in_turn s f a b d e (suc n) (g ∷ bytes) fits first = (
   ),
 )
 
--- Bytes that can follow each other in turn can do it by index.
+-- If the first n bytes can follow each other one after another, they can by their index.
 pub by_index : (s : CharacterSet) (f : Flavor) (a b d e n : ℕ) (bytes : List ℕ) → n ≤ length bytes →
     FollowToEnd s f a b d e (take n bytes) → FollowBefore s f (a ∷ b ∷ d ∷ e ∷ bytes) n
 by_index s f a b d e zero bytes fits all = (λ k before. absurd (omega arith), (ends_if s a b d e).1 all)
@@ -230,7 +231,7 @@ are_whole s f (suc n) a b d e (g ∷ bytes) few ends all =
     (λ (found : IsSecond s f e g). absurd (omega (arith, found.leads, ends.last)))
     (if_nothing s f e g (grind (arith, nat_tests)))
 
--- After four zeros is a boundary.
+-- The offset after four zeros is a boundary.
 pub start : (s : CharacterSet) → Ends s 0 0 0 0
 start s = grind (arith, nat_tests)
 

@@ -1,6 +1,7 @@
--- The bytes of whole characters can follow each other, so no prefix of whole characters extends past
--- the first byte that cannot follow. Hence the length of the longest such prefix, for `prefix.rt`,
--- `valid.rt`, `modes.rt` and what appends or writes to a slice.
+-- The bytes of whole characters can follow each other (`follows` in specs/Following), so no prefix
+-- of whole characters extends past the first byte that cannot follow. This gives the length of the
+-- longest such prefix, for `prefix.rt`, `valid.rt`, `modes.rt`, and what appends or writes to a
+-- slice.
 use Rattle.std.proofs.Common.{◌≡◌, ℕ, ◌+◌, ◌<◌, ◌≤◌, ◌⊎◌, inl, inr, true, false, List, [], ◌∷◌, ◌++◌, refl, subst, arith, length, take, ◌↔◌, ⊎_elim, true≢false, cond, leb, get_or, sym, ap, ◌∙◌, drop, length-append, length-drop}
 use Rattle.std.specs.List.{Any}
 use Rattle.std.proofs.lemmas.Bool.{lt-leb, le-leb, cases_Bool, cases_lt}

@@ -1,4 +1,5 @@
--- What strict and lossy decoding return in each mode.
+-- What strict and lossy decoding return in each mode: input that the mode returns unchanged decodes
+-- to its own characters, and all other input to its reading in the encoding.
 use Rattle.std.proofs.Common.{ℕ, List}
 use Rattle.cesu8_text.specs.Encoding.{Flavor}
 use Rattle.cesu8_text.specs.Kept.{KnowsTexts}

@@ -42,7 +42,7 @@ unfolding lossy_length
 lossy_text_length f bytes chunk read =
     let all = all_read f Lossy bytes [] [] chunk read refl in ap (λ text. length (utf8 text)) (sym all.1.1) ∙ sym (ap length all.2)
 
--- If a chunk is appended, the bytes of it are decoded.
+-- If a chunk is appended, its bytes are decoded.
 pub chunk_appended : (f : Flavor) (which : Strictness) (bytes rest chunk old new : List ℕ) → IsChunk f which bytes rest chunk →
     new ≡ old ++ chunk → IsReadSoFar f which bytes rest old new
 chunk_appended f which bytes rest chunk old new is_chunk new_is = grind arith

@@ -71,7 +71,7 @@ module _ (f : Flavor) (bytes : List ℕ) (keeps : Type 0) (reads reads_lossily :
 
 -- ---- the text is written or not
 
--- In strict decoding the input has no text.
+-- If strict decoding finds that the input has no text, `NoText` is the right error.
 pub no_strict_text : (f : Flavor) (which : Strictness) (bytes buf : List ℕ) → (which ≡ Strict) × HasNoStrictReading f bytes →
     PutsText which (IsReadingOf f which bytes) (Err write_error.NoText) buf buf
 no_strict_text f which bytes buf none = grind (arith, nat_tests)

@@ -1,4 +1,5 @@
--- The text that a vector holds after its first part and the chunks, for `build_chunks`.
+-- The text that a vector holds after its first part and the chunks, for `build_chunks` of
+-- src/destinations/strings.rt.
 use Rattle.std.proofs.Common.{◌≡◌, ◌∙◌, sym, arith, ℕ, ◌+◌, List, [], ◌++◌, length, length-append, append-nil, Vec, vec_capacity, Ok}
 use Rattle.std.proofs.lemmas.Bool.Decides.{nat_tests}
 use Rattle.cesu8_text.specs.Encoding.{Flavor}
@@ -12,8 +13,8 @@ use Rattle.cesu8_decode.specs.Decoding.{AppendsReading, BuildsReading}
 use Rattle.cesu8_decode.proofs.by_offset.IllFormed.{IsChunk}
 use Rattle.cesu8_decode.proofs.chunks.ReadChunks.{lossy_text_length, more_read}
 
--- If no character crosses the end of the first bytes, their lossy reading is that of all bytes up
--- to there.
+-- If no character crosses the end of the first bytes, their text is a chunk of the text of all
+-- bytes.
 read_apart : (f : Flavor) (bytes first rest text : List ℕ) → first ++ rest ≡ bytes → NoneCrosses f first rest → IsChunk f Lossy first [] text →
     IsChunk f Lossy bytes rest text
 read_apart f bytes first rest text whole apart read = grind (arith, nat_tests, split, reading_nil, append-nil)

@@ -34,7 +34,8 @@ pub otherwise_begins : (f : Flavor) (c : ℕ) (rest : List ℕ) → IsScalarValu
 unfolding encoding form units_of
 otherwise_begins f c rest scalar needs = grind (arith, nat_tests)
 
--- If bytes begin with neither of these, no character whose encoding is not its UTF-8 begins them.
+-- If bytes begin with neither a surrogate pair nor, in MUTF-8, C0 80, no character whose encoding
+-- is not its UTF-8 begins them.
 none_otherwise : (f : Flavor) (bytes : List ℕ) → ¬ (BeginsChanged f bytes) → (c : ℕ) (rest : List ℕ) → IsEncodedOtherwise f c →
     ¬ (BeginsWith f bytes c rest)
 none_otherwise f bytes neither c rest needs begins =
@@ -67,7 +68,7 @@ module _ (f : Flavor) (bytes rest chunk : List ℕ) (read : IsChunk f Strict byt
 chunk_of : (f : Flavor) (bytes rest old new : List ℕ) (so_far : IsReadSoFar f Strict bytes rest old new) → IsChunk f Strict bytes rest (utf8 so_far.text)
 chunk_of f bytes rest old new so_far = grind arith
 
--- Nothing is appended if there is no strict reading.
+-- If there is no strict reading, the error is right: nothing is appended.
 pub none_appended : {Z E : Type 0} (f : Flavor) (which : Strictness) (bytes : List ℕ) (before : Vec ℕ Z) (result : Result (Vec ℕ Z) E) → IsErr result →
     (which ≡ Strict) × HasNoStrictReading f bytes → AppendsReading f which bytes before result
 none_appended f which bytes before (Ok text) err none = absurd (false≢true err)

@@ -5,7 +5,8 @@ ghost use Rattle.cesu8_bytes.specs.Packing.{AreShufflesOfEight};
 use crate::Rows;
 
 // Expands to the rows for the given bytes. Each byte doubles the rows: after those that keep it
-// come those that drop it. A row is the bytes that it keeps, and a 1 for each that it drops.
+// come those that drop it. A row is the bytes that it keeps, and a 1 for each that it drops. At the
+// end each 1 becomes a 0 of the row, and is subtracted from the count.
 macro_rules! rows {
     ($([$($kept:literal)*] [$($dropped:literal)*])*; $byte:literal $($bytes:literal)*) => {
         rows!(

@@ -4,7 +4,8 @@ use Rattle.std.specs.Prelude.{Option}
 use Rattle.std.specs.Io.KnownBytes.{Consumes}
 use Rattle.cesu8_cli_run.proofs.run.read_whole.Goals as goal
 
--- Bytes that are read in two steps are read, one part after the other.
+-- Two reads together consume the bytes of the first, and then those of the second. If it is not
+-- known which bytes the reader has (`None`), there is nothing to prove.
 consumes_both : (first next last : Option (List ℕ)) (bytes more : List ℕ) → Consumes first next bytes →
     Consumes next last more → Consumes first last (bytes ++ more)
 consumes_both None next last bytes more is are = tt
