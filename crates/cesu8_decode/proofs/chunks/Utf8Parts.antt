@@ -1,4 +1,5 @@
--- UTF-8 that is divided between two characters, and UTF-8 with zeros after it.
+-- UTF-8 that is divided between two characters, and UTF-8 with zeros after it. `utf8.rt` tests
+-- bytes in such parts, and pads the last bytes of a part with zeros.
 use Rattle.std.proofs.Common.{◌≡◌, ℕ, ◌+◌, ◌-◌, ◌<◌, ◌≤◌, ◌↔◌, ◌⊎◌, ◌∙◌, ⊎_elim, List, [], ◌∷◌, ◌++◌, arith, get_or, length, length-append, replicate, subst, sym, take, drop}
 use Rattle.std.specs.Str.{IsUtf8, IsCharBoundary, chars}
 use Rattle.std.proofs.Math.Seq.{take-append_seam}

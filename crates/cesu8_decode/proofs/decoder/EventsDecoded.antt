@@ -267,7 +267,8 @@ unfolding utf8_of
 length_replacements zero = refl
 length_replacements (suc n) = omega (arith, length_replacements n)
 
--- Of the bytes that one store writes, the first 3n are n replacement characters.
+-- One store writes a vector of 32 bytes: ten replacement characters, and two bytes of another. The
+-- first 3n of these bytes are n replacement characters.
 first_replacements : (n : ℕ) → n ≤ 10 → take (3 * n) (utf8 (replicate 10 0xFFFD) ++ 0xEF ∷ 0xBF ∷ []) ≡ utf8 (replicate n 0xFFFD)
 first_replacements n few =
     let some = utf8 (replicate n 0xFFFD) in

@@ -1,4 +1,5 @@
--- How many bytes offsets save, by how many bits of each mask are set.
+-- How many bytes offsets save, by how many bits of each mask are set, for `lengths/counts.rt`. A
+-- character of n bytes that becomes m bytes of UTF-8 saves 3 * n - m. Ill-formed bytes save none.
 use Rattle.std.proofs.Common.{◌≡◌, ℕ, zero, suc, ◌+◌, ◌-◌, ◌*◌, ◌≤◌, Bool, cond, true, false, not, eqb, List, ◌++◌, map, drop, take, replicate, length, get_or, count_by, count_ones, refl, ap, sym, ◌∙◌, arith, zero-add}
 use Rattle.std.specs.List.{range_with_len}
 use Rattle.std.proofs.lemmas.Bool.Decides.{nat_tests}
@@ -122,7 +123,7 @@ pub with_zeros : (bytes : List ℕ) (n k : ℕ) → get_or (bytes ++ replicate n
 with_zeros bytes n k = grind (arith, nat_tests, get_or_append_left, get_or-append_right, zeros, get_or_past)
 
 module _ (f : Flavor) (bytes : List ℕ) where
-  -- Bytes with zeros after them save what they save without.
+  -- Bytes with zeros after them save what they save without the zeros.
   pub saved_before_zeros : (n : ℕ) → saved_between f (bytes ++ replicate n 0) 0 (length bytes) ≡ total_saved f bytes
   saved_before_zeros n =
       saved_agrees f (bytes ++ replicate n 0) bytes 0 0 (length bytes) (λ k small. with_zeros bytes n (0 + k)) ∙ all_offsets f bytes

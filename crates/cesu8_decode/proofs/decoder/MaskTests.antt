@@ -1,4 +1,5 @@
--- The masks of classes combined, byte by byte.
+-- What the combinations of masks in `lanes/masks.rt` say about a byte and those after it: for
+-- example, whether a character of three bytes begins there.
 use Rattle.std.proofs.Common.{◌≡◌, ℕ, ◌<◌, Bool, true, false, not, ◌&&◌, ◌||◌, eqb, leb, ltb, ⊎_elim, refl, sym, ap, ◌∙◌, arith}
 use Rattle.std.proofs.lemmas.Bool.{agree_below_at, cases_Bool, ne_eqb, both_ways}
 use Rattle.std.proofs.lemmas.Bool.Decides.{nat_tests}
@@ -40,7 +41,8 @@ odd_bit b small = agree_below_at (λ b. (continues b && has_bit_below 2 b) && ha
 
 -- ---- three bytes
 
--- The tests of the code. p, q and r are bits of the first and of the second byte.
+-- The tests of `threes_and_pairs`. p is bit 10 (hexadecimal) of the first byte, and q and r are
+-- bits 20 and 10 of the second. p2, q2 and r2 are those of the fourth and of the fifth byte.
 abbrev pub whole_by : (a b d : ℕ) (p : Bool) → Bool
 whole_by a b d p = ((leb 0xE0 a && continues b) && continues d) && not p
 

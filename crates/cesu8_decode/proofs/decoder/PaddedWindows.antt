@@ -1,4 +1,5 @@
--- The window of at most 64 bytes, with zeros after them.
+-- The window of at most 64 bytes, with zeros after them, for `window_of_short` of
+-- `lanes/windows.rt` and for `pass/short.rt`.
 use Rattle.std.proofs.Common.{◌≡◌, ℕ, ◌+◌, ◌^◌, ◌<◌, ◌≤◌, ⊎_elim, Bool, true, false, not, ◌&&◌, ◌||◌, eqb, ltb, List, ◌++◌, length, take, replicate, get_or, bit_and, sym, ap, ◌∙◌, arith, w64, zero-add}
 use Rattle.std.specs.Int.{bit_not}
 use Rattle.std.proofs.lemmas.Bool.{cases_lt, le-ltb}

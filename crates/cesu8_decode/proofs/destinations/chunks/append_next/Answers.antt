@@ -68,7 +68,7 @@ returns-else-not-pass-clause-next g c = record {
   capacity = refl;
 }
 
--- If it writes to the vector, the zeros that were appended are long enough.
+-- If it writes to the vector, at least `ROOM` zeros were appended, which is what it needs.
 pub write_windows-pass-requires-2-clause-room : goal.write_windows-pass-requires-2-clause-room
 write_windows-pass-requires-2-clause-room g c =
     simp take_rest (omega (
