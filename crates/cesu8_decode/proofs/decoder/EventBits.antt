@@ -10,7 +10,7 @@ use Rattle.cesu8_decode.proofs.decoder.MaskBits.{bit_kept}
 
 -- ---- the lowest bit
 
--- A number whose k lowest bits are 0 is a multiple of a power of two.
+-- A number whose k lowest bits are 0 is a multiple of 2 ^ k.
 none_below : (n k : ℕ) → ((i : ℕ) → i < k → bit_at n i ≡ 0) → n % 2 ^ k ≡ 0
 none_below n zero none = omega arith
 none_below n (suc k) none =

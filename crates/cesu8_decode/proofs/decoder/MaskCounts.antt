@@ -134,7 +134,7 @@ module _ (f : Flavor) (bytes : List ℕ) where
       saved_agrees f (chunk at 64 bytes) bytes 0 at n
       (λ k small. ap (λ i. get_or (chunk at 64 bytes) i 0) (zero-add k) ∙ get_or-chunk at 64 bytes k 0 (omega arith))
 
-  -- What is left saves what the next n offsets save, and what is left after them.
+  -- The bytes from an offset on save what the next n offsets save, and what those after them save.
   pub saved_next : (at n : ℕ) → at + n ≤ length bytes →
       total_saved f (drop at bytes) ≡ saved_between f bytes at n + total_saved f (drop (at + n) bytes)
   saved_next at n fits =
@@ -144,12 +144,12 @@ module _ (f : Flavor) (bytes : List ℕ) where
       let there = ap (total_saved f) (drop-drop n at bytes) in
       omega (arith, parts, here, there)
 
-  -- The next n offsets of a vector, which begins at the offset, and those after them.
+  -- Like `saved_next`, with the next n offsets in a vector that is loaded at the offset.
   pub saved_next_in_chunk : (at n : ℕ) → n + 5 ≤ 64 → at + n ≤ length bytes →
       total_saved f (drop at bytes) ≡ saved_between f (chunk at 64 bytes) 0 n + total_saved f (drop (at + n) bytes)
   saved_next_in_chunk at n few fits =
       omega (arith, saved_next at n fits, saved_in_chunk at n few)
 
-  -- What all bytes from an offset on save, as the code takes these bytes.
+  -- `&bytes[at..]` is `drop at bytes` cut to its own length, which cuts off nothing.
   pub saved_in_rest : (at : ℕ) → total_saved f (take (length bytes - at) (drop at bytes)) ≡ total_saved f (drop at bytes)
   saved_in_rest at = ap (total_saved f) (take_all (length bytes - at) (drop at bytes) (omega (arith, length-drop at bytes)))

@@ -39,7 +39,8 @@ returns-clause-next g c =
       capacity = c.truncate.ensures.capacity ∙ c.append_zeros.ensures.capacity;
     }
 
--- If the pass writes to an array first, what it wrote there is appended, or nothing is.
+-- If the pass writes to an array first, what it wrote there is appended, or nothing if strict
+-- decoding rejects a byte.
 pub slice_bounds-written-end : goal.slice_bounds-written-end
 slice_bounds-written-end g c = c.write_windows-pass.ensures.more.inside
 
