@@ -164,7 +164,8 @@ module _ {f : Flavor} {bytes : List ℕ} {at width : ℕ} {window : Window} {sta
       before : WritesAt (decoded f (window_of bytes) at next) start old mid copied
       before = copied_to next copied mid next_low (omega (arith, next_begins, is_window.len)) lowest.below copy
 
-      -- The buffer has space for the bytes of one more event.
+      -- The copied bytes end within the greatest length of the window's text, so the buffer has
+      -- space for a character after them.
       pub event_room : copied ≤ start + most_of_window window
       event_room = omega (arith, before.end, text_fits so_far.holds next (omega (arith, next_begins, is_window.len)))
 

@@ -21,7 +21,7 @@ use Rattle.cesu8_decode.proofs.decoder.MaskTests.{pair_width}
 abbrev one_if : Bool → ℕ
 one_if t = cond t 1 0
 
--- If exactly one of the tests of a form passes, it decides what is saved.
+-- At most one of the tests of the five forms passes, and it decides what is saved.
 by_forms : (one null two three pair is_c0 : Bool) →
     (one ≡ true → (null ≡ false) × (two ≡ false) × (three ≡ false) × (pair ≡ false)) →
     (null ≡ true → (two ≡ false) × (three ≡ false) × (pair ≡ false) × (is_c0 ≡ true)) →

@@ -15,7 +15,7 @@ whole_of leads second odd = bit_and (bit_and leads (second / 2)) (bit_not w64 od
 abbrev surrogates_of : (leads second wide odd led : ℕ) → ℕ
 surrogates_of leads second wide odd led = bit_and (bit_and (whole_of leads second odd) (wide / 2)) led
 
--- These masks have 64 bits.
+-- If a has at most 64 bits, so has a & b.
 pub and_fits : (a b : ℕ) → a < 2 ^ 64 → bit_and a b < 2 ^ 64
 and_fits a b fits = omega (arith, and_le_l a b)
 

@@ -177,7 +177,7 @@ module _ (f : Flavor) (bytes : List ℕ) (at n : ℕ) (boundary : is_boundary_at
           ap (is_ill_formed_at f (window_of bytes)) (sym place) ∙ not_ill i set,
         )
 
-    -- No character crosses the end of the window, if the byte after it is not covered.
+    -- No character crosses the end of the window, if all that begin in it end within 64 bytes.
     boundary_after : ((i : ℕ) → i < n → i + w i ≤ 64) → is_boundary_at f (window_of bytes) (at + (n + r)) ≡ true
     boundary_after whole = boundary_where f (window_of bytes) (at + (n + r)) (λ s small.
         ⊎_elim (λ (early : n + r + s < 5).
