@@ -1,4 +1,5 @@
--- The vector code of the decoder.
+-- The vector code of the decoder: masks, the classes of adjacent bytes, windows and the pass over
+-- them, and the events of a window.
 pub mod MaskBits
 pub mod MaskTests
 pub mod ThreeMasks

@@ -1,4 +1,5 @@
--- UTF-8 that is divided between two characters, and UTF-8 with zeros after it.
+-- UTF-8 that is divided between two characters, and UTF-8 with zeros after it. `utf8.rt` tests
+-- bytes in such parts, and pads the last bytes of a part with zeros.
 use Rattle.std.proofs.Common.{◌≡◌, ℕ, ◌+◌, ◌-◌, ◌<◌, ◌≤◌, ◌↔◌, ◌⊎◌, ◌∙◌, ⊎_elim, List, [], ◌∷◌, ◌++◌, arith, get_or, length, length-append, replicate, subst, sym, take, drop}
 use Rattle.std.specs.Str.{IsUtf8, IsCharBoundary, chars}
 use Rattle.std.proofs.Math.Seq.{take-append_seam}
@@ -21,8 +22,8 @@ with_zeros bytes n =
       λ is_utf8. IsUtf8-append bytes zeros is_utf8 (IsUtf8-from_ascii zeros (λ i. omega (arith, zeros_at n i))),
     )
 
--- If UTF-8 would have a character boundary at the end of a part, the bytes are UTF-8 exactly if the
--- part and the rest are.
+-- If the end of a part is a character boundary whenever the bytes are UTF-8, they are UTF-8 exactly
+-- if the part and the rest are.
 pub both_parts : (bytes : List ℕ) (n : ℕ) → (IsUtf8 bytes → IsCharBoundary bytes n) → IsUtf8 bytes ↔ (IsUtf8 (take n bytes) × IsUtf8 (drop n bytes))
 both_parts bytes n boundary = (
   λ whole. (IsUtf8-take bytes n whole (boundary whole), IsUtf8-drop bytes n whole (boundary whole)),

@@ -59,7 +59,7 @@ begun_whole s f bytes rest c scalar inside are whole =
     subst (AreWhole s f) (sym are) (parts_whole s f (encoding f (c ∷ [])) rest (character_whole s f c scalar inside) whole)
 
 -- Bytes are whole characters if they begin with a character of the set and the rest is whole
--- characters. A character that is as long in UTF-8 is in each set.
+-- characters. A character whose encoding is as long as its UTF-8 (m ≡ n) is in each set.
 pub whole_with : (f : Flavor) (bytes : List ℕ) (m n : ℕ) → BeginsInLengths f bytes m n → (s : CharacterSet) → (has_changed s ≡ true) ⊎ (m ≡ n) →
     AreWhole s f (drop m bytes) → AreWhole s f bytes
 whole_with f bytes m n found s either rest =

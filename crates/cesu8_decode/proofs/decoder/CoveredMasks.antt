@@ -1,4 +1,6 @@
--- Which offsets the characters of a window cover, by the masks of their starts.
+-- Which offsets are covered by characters of two bytes or more that begin at one of n offsets, from
+-- `at` on. `window_of_lanes` (`lanes/windows.rt`) computes a mask of them from the masks of the
+-- characters' starts.
 use Rattle.std.proofs.Common.{◌≡◌, ℕ, zero, suc, ◌+◌, ◌-◌, ◌*◌, ◌%◌, ◌^◌, ◌<◌, ◌≤◌, ◌⊎◌, ⊎_elim, Bool, cond, true, false, ◌&&◌, ◌||◌, eqb, leb, ltb, List, get_or, bit_or, refl, sym, ap, ◌∙◌, arith}
 use Rattle.std.proofs.lemmas.Bool.{cases_lt, or_cases, and_parts, and_from, lt-ltb, le-leb, ltb-true, leb-true, or_left, or_right, eq-eqb, eqb-true}
 use Rattle.std.proofs.lemmas.Bool.Decides.{nat_tests}
@@ -12,7 +14,7 @@ use Rattle.cesu8_decode.proofs.decoder.MaskBits.{or_bits, earlier_bits}
 
 -- ---- the widths of forms
 
--- The width, by which of the five forms begins.
+-- The width w of the character that begins, by which of the five forms it has.
 pub record Forms (w : ℕ) (one null two three pair : Bool) : Type 0 where
   pub is_one : one ≡ true → w ≡ 1
   pub is_null : null ≡ true → w ≡ 2
@@ -55,7 +57,7 @@ module _ (f : Flavor) (bytes : List ℕ) (at n : ℕ) where
   abbrev first : (ℕ → Bool) → ℕ → Bool
   first test i = ltb i n && test (at + i)
 
-  -- An offset k bytes after one that passes a test.
+  -- An offset k bytes after one that passes a test. A mask has no bit for an offset from 64 on.
   abbrev pub after : ℕ → (ℕ → Bool) → ℕ → Bool
   after k test i = ltb i 64 && (leb k i && test (i - k))
 

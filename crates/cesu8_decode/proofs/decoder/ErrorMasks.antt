@@ -56,8 +56,8 @@ pub marks_are : (t : ℕ → Bool) (lanes ns : List ℕ) → lanes ≡ map (λ i
 marks_are t lanes ns is =
     ap (map (leb 0x80)) is ∙ map-map (leb 0x80) (λ i. mask (t i)) ns ∙ ap (λ test. map test ns) (λ i k. of_mask (t k) i)
 
--- If a function does not depend on its first argument, `zip2` does not depend on the first list,
--- and likewise for the second argument.
+-- If a function does not depend on its first argument, `zip2` does not depend on the first list. If
+-- it does not depend on its second argument, `zip2` does not depend on the second list.
 first_alike : {A : Type 0} (g : ℕ → ℕ → A) → ((a c b : ℕ) → g a b ≡ g c b) → (xs us ys : List ℕ) → length xs ≡ length us → zip2 g xs ys ≡ zip2 g us ys
 first_alike g alike [] [] ys long = refl
 first_alike g alike [] (u ∷ us) ys long = absurd (omega (arith, long))

@@ -1,4 +1,5 @@
--- The bits of the events, which a loop visits one after another.
+-- The bits of a window's events, which the loop of `write_in_turn` visits from the lowest on. It
+-- clears each by `events & (events - 1)`.
 use Rattle.std.proofs.Common.{◌≡◌, ◌≢◌, ℕ, zero, suc, ◌+◌, ◌-◌, ◌*◌, ◌/◌, ◌%◌, ◌^◌, ◌<◌, ◌≤◌, ◌⊎◌, ⊎_elim, sym, ap, ◌∙◌, arith, min, max}
 use Rattle.std.specs.Int.{bit_at, bit_not, w64}
 use Rattle.std.specs.Int.Bits.{bit_and, bit_or}
@@ -9,7 +10,7 @@ use Rattle.cesu8_decode.proofs.decoder.MaskBits.{bit_kept}
 
 -- ---- the lowest bit
 
--- A number whose k lowest bits are 0 is a multiple of a power of two.
+-- A number whose k lowest bits are 0 is a multiple of 2 ^ k.
 none_below : (n k : ℕ) → ((i : ℕ) → i < k → bit_at n i ≡ 0) → n % 2 ^ k ≡ 0
 none_below n zero none = omega arith
 none_below n (suc k) none =
@@ -68,7 +69,8 @@ module _ (n : ℕ) where
       let half : n * 2 / 2 ≡ n = omega arith in
       bit_kept (n * 2) i small ∙ ap (bit_at (n * 2)) next ∙ bit_at-suc (n * 2) j ∙ ap (λ m. bit_at m j) half
 
--- The mask of all events: the bits of `changing`, and the first bit of each run of `ill`.
+-- The mask of all events. `changing` marks the surrogate pairs and C0 80, and `ill` the ill-formed
+-- bytes. Each event has one bit: one of `changing`, or the first of a run of `ill`.
 abbrev pub all_events : (changing ill : ℕ) → ℕ
 all_events changing ill = bit_or changing (bit_and ill (bit_not w64 (ill * 2 % 2 ^ 64)))
 
@@ -111,8 +113,8 @@ module _ (changing ill : ℕ) (fits : ill < 2 ^ 64) where
 
 -- ---- the events that are left
 
--- The bits of the events from `read` on are left, and no ill-formed byte before `read` is in the
--- run of the byte there.
+-- The bits of the events from `read` on are left. If the byte at `read` is ill-formed, an event
+-- begins there (`fresh`).
 pub record AreLeft (changing ill read events : ℕ) : Type 0 where
   pub gone : (i : ℕ) → i < read → bit_at events i ≡ 0
   pub same : (i : ℕ) → read ≤ i → bit_at events i ≡ bit_at (all_events changing ill) i
@@ -135,7 +137,7 @@ module _ (changing ill read events : ℕ) (fits : ill < 2 ^ 64) (are : AreLeft c
           omega (arith, are.fresh (ap (bit_at ill) (sym here) ∙ set), none_at read (omega arith) (omega arith)))
       none_after (suc k) inside = unset ill (read + suc k) (λ set. omega (arith, run_begins changing ill fits (read + suc k) (read + k) (omega arith) (none_after k (omega arith)) set, none_at (read + suc k) (omega arith) inside))
 
-  -- After an event that ends at `after`, the others are left.
+  -- After an event that ends at `after`, the later ones are left.
   pub after_event : (next after : ℕ) → IsLowest events next → read ≤ next → next < after → ((i : ℕ) → next < i → i < after → bit_at (all_events changing ill) i ≡ 0) →
       (bit_at ill after ≡ 1 → bit_at (all_events changing ill) after ≡ 1) → AreLeft changing ill after (bit_and events (events - 1))
   after_event next after lowest low further none begins = record {

@@ -59,8 +59,8 @@ module _ {f : Flavor} {bytes : List ℕ} {at : ℕ} {width : ℕ} {window : Wind
   ill_formed_starts : (i : ℕ) → is_ill_formed_at f (window_of bytes) i ≡ true → width_at f bytes i ≡ 0
   ill_formed_starts i bad = omega (arith, not_reached f (window_of bytes) i bad 5 (omega arith), width_there f bytes i)
 
-  -- No event begins at an offset where no character begins, unless an ill-formed byte does that
-  -- follows none.
+  -- If no character begins at an offset, no event begins there, except for an ill-formed byte that
+  -- follows no other.
   no_event : (i j : ℕ) → i ≡ j + 1 → width_at f bytes (at + i) ≡ 0 → (bit_at window.ill_formed i ≡ 0) ⊎ (bit_at window.ill_formed j ≡ 1) → bit_at (events_of window) i ≡ 0
   no_event i j there none either =
       let begins = none_changes is (at + i) none in
@@ -164,7 +164,8 @@ module _ {f : Flavor} {bytes : List ℕ} {at width : ℕ} {window : Window} {sta
       before : WritesAt (decoded f (window_of bytes) at next) start old mid copied
       before = copied_to next copied mid next_low (omega (arith, next_begins, is_window.len)) lowest.below copy
 
-      -- The buffer has space for the bytes of one more event.
+      -- The copied bytes end within the greatest length of the window's text, so the buffer has
+      -- space for a character after them.
       pub event_room : copied ≤ start + most_of_window window
       event_room = omega (arith, before.end, text_fits so_far.holds next (omega (arith, next_begins, is_window.len)))
 

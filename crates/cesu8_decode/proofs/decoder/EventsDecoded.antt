@@ -48,7 +48,7 @@ lead_first : (f : Flavor) (a b d e g h : ℕ) → null_at f a b ≡ false → a 
 unfolding first_width_by
 lead_first f a b d e g h none lead = grind (arith, nat_tests)
 
--- C0 is in no later position of a character, except possibly of a surrogate pair.
+-- If the second byte is C0, a character that is no surrogate pair has at most one byte.
 lead_second : (f : Flavor) (a b d e g h : ℕ) → eqb (first_width_by f a b d e g h) 6 ≡ false → b ≡ 0xC0 → first_width_by f a b d e g h ≤ 1
 unfolding first_width_by
 lead_second f a b d e g h other lead = grind (arith, nat_tests)
@@ -214,7 +214,7 @@ module _ (f : Flavor) (bytes : List ℕ) where
     pub pair_wide : 6 ≡ width_at f bytes at
     pair_wide = sym six ∙ width_there f bytes at
 
-  -- If the test says so, a surrogate pair begins at the offset.
+  -- If `is_pair_at` is true, a surrogate pair begins at the offset.
   pub pair_begins : (at : ℕ) → is_pair_at f bytes at ≡ true → HasPair (drop at bytes)
   pair_begins at pair =
       let g : (k : ℕ) → get_or (drop at bytes) k 0 ≡ get_or bytes (at + k) 0 = λ k. get_or-drop at bytes k 0 in
@@ -267,7 +267,8 @@ unfolding utf8_of
 length_replacements zero = refl
 length_replacements (suc n) = omega (arith, length_replacements n)
 
--- Of the bytes that one store writes, the first 3n are n replacement characters.
+-- One store writes a vector of 32 bytes: ten replacement characters, and two bytes of another. The
+-- first 3n of these bytes are n replacement characters.
 first_replacements : (n : ℕ) → n ≤ 10 → take (3 * n) (utf8 (replicate 10 0xFFFD) ++ 0xEF ∷ 0xBF ∷ []) ≡ utf8 (replicate n 0xFFFD)
 first_replacements n few =
     let some = utf8 (replicate n 0xFFFD) in

@@ -64,6 +64,7 @@ module _ {f : Flavor} {bytes : List ℕ} {at : ℕ} {window : Window} (holds : H
   second_packed i set = rw set refl
 
   -- From an offset that is not the second byte of C0 80, what is packed is what decoding writes.
+  -- `r` bytes of the window are left, and `m` bounds the steps: each takes C0 80 or one byte.
   packed_from : (m r i : ℕ) → r ≤ m → i + r ≡ window.len → bit_at left_out i ≡ 0 → ((j : ℕ) → i ≡ j + 1 → is_null_at f bytes (at + j) ≡ false) →
       flat_map packed (range_with_len i r) ≡ decoded f (window_of bytes) (at + i) r
   unfolding decoded

@@ -1,4 +1,6 @@
--- The shuffles that put replacement characters in place of ill-formed bytes, four bytes at a time.
+-- The shuffles that put replacement characters in place of ill-formed bytes, four bytes at a time:
+-- the rows of the table `ROWS` in `pass/events/replaced.rt`. Bit i of a row's number is set if byte
+-- i is ill-formed. The last entry of a row is how many bytes it packs.
 use Rattle.std.proofs.Common.{◌≡◌, ℕ, ◌+◌, ◌-◌, ◌/◌, ◌%◌, ◌^◌, ◌<◌, ◌≤◌, Bool, true, false, eqb, List, [], ◌∷◌, ◌++◌, length, take, drop, get_or, replicate, refl, sym, ap, ◌∙◌, arith, length-drop, bit_and}
 use Rattle.std.proofs.lemmas.Bool.{agree_below_at, and_parts, eqb-true}
 use Rattle.std.proofs.lemmas.List.{length-take, length-take-le, take-take, drop-take}
@@ -24,7 +26,7 @@ same_list_is (x ∷ xs) (y ∷ ys) e =
 abbrev kept_by : ℕ → List ℕ
 kept_by set = kept_of 0 set 0 4
 
--- Each row of the table is the shuffle for its number.
+-- Each row of `ROWS` is the shuffle for its number.
 pub rows_are : (set : ℕ) → set < 0x10 → get_or ROWS set [] ≡ shuffle_keeping (kept_of 0 set 0 4)
 unfolding same_list same_rows
 rows_are set small = grind (arith, same_list_is, agree_below_at, same_rows)

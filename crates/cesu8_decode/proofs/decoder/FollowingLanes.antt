@@ -1,4 +1,5 @@
--- The class of each pair of bytes and the class that is required, lane by lane.
+-- The class of each pair of bytes and the class that is required, lane by lane, for `pair_classes`
+-- and `required_classes` of `lanes/following.rt`.
 use Rattle.std.proofs.Common.{◌≡◌, ℕ, ◌+◌, ◌%◌, ◌^◌, ◌<◌, ⊎_elim, Bool, true, false, cond, ◌&&◌, List, map, length, replicate, eqb, leb, ltb, bit_and, bit_or, refl, sym, ap, ◌∙◌, arith, Fits, w8, ◌-◌, add-zero, get_or}
 use Rattle.std.proofs.lemmas.Bool.{agree_below, agree_below_at, and_parts, eqb-true, ne_eqb, cases_eq, cases_Bool}
 use lib.Lanes.{zip2, sel_l, top, Each1}
@@ -34,7 +35,8 @@ unfolding pair_class
 table_bits_is Encoded = bits_by_halves ENCODED.by_high ENCODED.by_low ENCODED.by_next (pair_class Encoded Cesu8) refl (by_half Encoded)
 table_bits_is Unchanged = bits_by_halves UNCHANGED.by_high UNCHANGED.by_low UNCHANGED.by_next (pair_class Unchanged Cesu8) refl (by_half Unchanged)
 
--- The class bits that are kept in MUTF-8: all but 10 for a second byte 80, if the set has C0 80.
+-- The class bits that are kept in MUTF-8: all but 10 (hexadecimal, `OVERLONG_C0`) for a second byte
+-- 80, if the set has C0 80.
 abbrev kept_of : CharacterSet → ℕ → ℕ
 kept_of s b = cond (has_changed s && eqb b 0x80) 0xEF 0xFF
 
@@ -99,8 +101,8 @@ all_kept s none bytes long = rw (lanes_are bytes long, none) refl
 pub is_high_lane : (b : ℕ) → b < 0x100 → eqb (bit_and b 0xF0) 0xA0 ≡ (leb 0xA0 b && ltb b 0xB0)
 is_high_lane b h = agree_below_at (λ b. eqb (bit_and b 0xF0) 0xA0) (λ b. leb 0xA0 b && ltb b 0xB0) 0x100 b refl h
 
--- After a saturating subtraction, the highest bit is left exactly for the bytes from a lead byte
--- on.
+-- The highest bit of b after a saturating subtraction of `less`. The code subtracts 60
+-- (hexadecimal), so this bit is left exactly for the lead bytes from E0 on.
 abbrev left_of : (less b : ℕ) → ℕ
 left_of less b = bit_and ((cond (top 7 (ones (ltb b less))) less b + (2 ^ 8 - less)) % 2 ^ 8) 0x80
 

@@ -1,4 +1,5 @@
--- The masks of all forms of characters at the first offsets, from masks of classes of bytes.
+-- The masks of all forms of characters at the first n offsets, from masks of classes of bytes. They
+-- are computed by `masks_of` (`lanes/masks.rt`), and most have the names that they have there.
 use Rattle.std.proofs.Common.{◌≡◌, ℕ, zero, suc, ◌∷◌, map, add-zero, ◌+◌, ◌/◌, ◌^◌, ◌<◌, ◌≤◌, Bool, true, false, not, ◌&&◌, ◌||◌, eqb, leb, ltb, List, get_or, bit_and, bit_or, ap, sym, ◌∙◌, refl, arith, w64, zero-add, Fits, w8}
 use Rattle.std.specs.Int.{bit_not}
 use Rattle.std.specs.List.{range_with_len}

@@ -146,7 +146,7 @@ first_have_bits n = record {
       (λ (above : n ≤ i). bit_at_ones_above n i above ∙ ap (λ t. cond t 1 0) (sym (le-ltb i n above))) (cases_lt i n);
 }
 
--- The power of two as the code computes it.
+-- The code (`first_bits`) computes 2 ^ n - 1 by a shift of 64 bits.
 pub power_less_one : (n : ℕ) → n < 64 → 1 * 2 ^ n % 2 ^ 64 - 1 ≡ 2 ^ n - 1
 power_less_one n few = grind (arith, pow-lt, one-mul, mod-eq_of_lt)
 

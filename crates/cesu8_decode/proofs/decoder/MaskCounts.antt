@@ -1,4 +1,5 @@
--- How many bytes offsets save, by how many bits of each mask are set.
+-- How many bytes offsets save, by how many bits of each mask are set, for `lengths/counts.rt`. A
+-- character of n bytes that becomes m bytes of UTF-8 saves 3 * n - m. Ill-formed bytes save none.
 use Rattle.std.proofs.Common.{◌≡◌, ℕ, zero, suc, ◌+◌, ◌-◌, ◌*◌, ◌≤◌, Bool, cond, true, false, not, eqb, List, ◌++◌, map, drop, take, replicate, length, get_or, count_by, count_ones, refl, ap, sym, ◌∙◌, arith, zero-add}
 use Rattle.std.specs.List.{range_with_len}
 use Rattle.std.proofs.lemmas.Bool.Decides.{nat_tests}
@@ -20,7 +21,7 @@ use Rattle.cesu8_decode.proofs.decoder.MaskTests.{pair_width}
 abbrev one_if : Bool → ℕ
 one_if t = cond t 1 0
 
--- If exactly one of the tests of a form passes, it decides what is saved.
+-- At most one of the tests of the five forms passes, and it decides what is saved.
 by_forms : (one null two three pair is_c0 : Bool) →
     (one ≡ true → (null ≡ false) × (two ≡ false) × (three ≡ false) × (pair ≡ false)) →
     (null ≡ true → (two ≡ false) × (three ≡ false) × (pair ≡ false) × (is_c0 ≡ true)) →
@@ -122,7 +123,7 @@ pub with_zeros : (bytes : List ℕ) (n k : ℕ) → get_or (bytes ++ replicate n
 with_zeros bytes n k = grind (arith, nat_tests, get_or_append_left, get_or-append_right, zeros, get_or_past)
 
 module _ (f : Flavor) (bytes : List ℕ) where
-  -- Bytes with zeros after them save what they save without.
+  -- Bytes with zeros after them save what they save without the zeros.
   pub saved_before_zeros : (n : ℕ) → saved_between f (bytes ++ replicate n 0) 0 (length bytes) ≡ total_saved f bytes
   saved_before_zeros n =
       saved_agrees f (bytes ++ replicate n 0) bytes 0 0 (length bytes) (λ k small. with_zeros bytes n (0 + k)) ∙ all_offsets f bytes
@@ -133,7 +134,7 @@ module _ (f : Flavor) (bytes : List ℕ) where
       saved_agrees f (chunk at 64 bytes) bytes 0 at n
       (λ k small. ap (λ i. get_or (chunk at 64 bytes) i 0) (zero-add k) ∙ get_or-chunk at 64 bytes k 0 (omega arith))
 
-  -- What is left saves what the next n offsets save, and what is left after them.
+  -- The bytes from an offset on save what the next n offsets save, and what those after them save.
   pub saved_next : (at n : ℕ) → at + n ≤ length bytes →
       total_saved f (drop at bytes) ≡ saved_between f bytes at n + total_saved f (drop (at + n) bytes)
   saved_next at n fits =
@@ -143,12 +144,12 @@ module _ (f : Flavor) (bytes : List ℕ) where
       let there = ap (total_saved f) (drop-drop n at bytes) in
       omega (arith, parts, here, there)
 
-  -- The next n offsets of a vector, which begins at the offset, and those after them.
+  -- Like `saved_next`, with the next n offsets in a vector that is loaded at the offset.
   pub saved_next_in_chunk : (at n : ℕ) → n + 5 ≤ 64 → at + n ≤ length bytes →
       total_saved f (drop at bytes) ≡ saved_between f (chunk at 64 bytes) 0 n + total_saved f (drop (at + n) bytes)
   saved_next_in_chunk at n few fits =
       omega (arith, saved_next at n fits, saved_in_chunk at n few)
 
-  -- What all bytes from an offset on save, as the code takes these bytes.
+  -- `&bytes[at..]` is `drop at bytes` cut to its own length, which cuts off nothing.
   pub saved_in_rest : (at : ℕ) → total_saved f (take (length bytes - at) (drop at bytes)) ≡ total_saved f (drop at bytes)
   saved_in_rest at = ap (total_saved f) (take_all (length bytes - at) (drop at bytes) (omega (arith, length-drop at bytes)))

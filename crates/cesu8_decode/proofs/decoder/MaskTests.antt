@@ -1,4 +1,5 @@
--- The masks of classes combined, byte by byte.
+-- What the combinations of masks in `lanes/masks.rt` say about a byte and those after it: for
+-- example, whether a character of three bytes begins there.
 use Rattle.std.proofs.Common.{◌≡◌, ℕ, ◌<◌, Bool, true, false, not, ◌&&◌, ◌||◌, eqb, leb, ltb, ⊎_elim, refl, sym, ap, ◌∙◌, arith}
 use Rattle.std.proofs.lemmas.Bool.{agree_below_at, cases_Bool, ne_eqb, both_ways}
 use Rattle.std.proofs.lemmas.Bool.Decides.{nat_tests}
@@ -19,19 +20,19 @@ continuation_bit a small = agree_below_at (λ a. leb 0x80 a && not (leb 0x80 a &
 pub below_c2_bit : (a : ℕ) → a < 256 → ((leb 0x80 a && has_bit_below 1 a) && not (leb 0xC2 a)) ≡ (leb 0xC0 a && ltb a 0xC2)
 below_c2_bit a small = agree_below_at (λ a. (leb 0x80 a && has_bit_below 1 a) && not (leb 0xC2 a)) (λ a. leb 0xC0 a && ltb a 0xC2) 256 a refl small
 
--- A byte from C2 on has the third bit set if it is E0 or more.
+-- A byte from C2 on has the third highest bit set exactly if it is E0 or more.
 pub wide_lead_bit : (a : ℕ) → a < 256 → (leb 0xC2 a && has_bit_below 2 a) ≡ leb 0xE0 a
 wide_lead_bit a small = agree_below_at (λ a. leb 0xC2 a && has_bit_below 2 a) (leb 0xE0) 256 a refl small
 
 pub two_lead_bit : (a : ℕ) → a < 256 → (leb 0xC2 a && not (has_bit_below 2 a)) ≡ (leb 0xC2 a && ltb a 0xE0)
 two_lead_bit a small = agree_below_at (λ a. leb 0xC2 a && not (has_bit_below 2 a)) (λ a. leb 0xC2 a && ltb a 0xE0) 256 a refl small
 
--- A byte from E0 on has the fourth bit set if it is F0 or more.
+-- A byte from E0 on has the fourth highest bit set exactly if it is F0 or more.
 three_lead_bit : (a : ℕ) → a < 256 → (leb 0xE0 a && not (has_bit_below 3 a)) ≡ (leb 0xE0 a && ltb a 0xF0)
 three_lead_bit a small = agree_below_at (λ a. leb 0xE0 a && not (has_bit_below 3 a)) (λ a. leb 0xE0 a && ltb a 0xF0) 256 a refl small
 
--- A continuation byte has the third bit set if it is A0 or more, and then the fourth if it is B0 or
--- more.
+-- A continuation byte has the third highest bit set exactly if it is A0 or more, and both the third
+-- and the fourth exactly if it is B0 or more.
 wide_bit : (b : ℕ) → b < 256 → (continues b && has_bit_below 2 b) ≡ (leb 0xA0 b && ltb b 0xC0)
 wide_bit b small = agree_below_at (λ b. continues b && has_bit_below 2 b) (λ b. leb 0xA0 b && ltb b 0xC0) 256 b refl small
 
@@ -40,7 +41,8 @@ odd_bit b small = agree_below_at (λ b. (continues b && has_bit_below 2 b) && ha
 
 -- ---- three bytes
 
--- The tests of the code. p, q and r are bits of the first and of the second byte.
+-- The tests of `threes_and_pairs`. p is bit 10 (hexadecimal) of the first byte, and q and r are
+-- bits 20 and 10 of the second. p2, q2 and r2 are those of the fourth and of the fifth byte.
 abbrev pub whole_by : (a b d : ℕ) (p : Bool) → Bool
 whole_by a b d p = ((leb 0xE0 a && continues b) && continues d) && not p
 

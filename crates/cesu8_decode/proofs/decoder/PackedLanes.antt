@@ -78,7 +78,7 @@ pub record Packs (f : Flavor) (bytes : List ℕ) (at : ℕ) (window : Window) (p
   pub after : (i : ℕ) → window.len ≤ i → i < 64 → length (packed i) ≡ 1
   pub most : (i : ℕ) → length (packed i) ≤ bound
 
--- The first n offsets are stored, so many at a time that `size` divides n.
+-- The first n offsets are stored, `size` at a time. For each at most `bound` bytes are stored.
 pub record AreStored (f : Flavor) (bytes : List ℕ) (at : ℕ) (window : Window) (packed : ℕ → List ℕ) (bound size n start : ℕ) (old new : List ℕ) (end : ℕ) : Type 0 where
   pub packs : Packs f bytes at window packed bound
   pub whole : n % size ≡ 0
@@ -131,7 +131,8 @@ module _ {f : Flavor} {bytes : List ℕ} {at : ℕ} {window : Window} {packed : 
           subst (λ bs. WritesAt bs start old new (end - (n - window.len))) (take-append_seam first others ∙ stored.packs.text)
           (subst (λ k. WritesAt (take (length first) (first ++ others)) start old new k) is_end cut)
 
--- Lanes are packed by the bits of a word, each by `pack`.
+-- Lanes are packed by the bits of a word: `pack` says what is stored for one lane, and `all` what
+-- is stored for `size` lanes at a time.
 module _ (f : Flavor) (bytes : List ℕ) (at : ℕ) (window : Window) (pack : Bool → ℕ → List ℕ) (word : ℕ) (fits : word < 2 ^ 64) (bound size : ℕ) (all : List Bool → List ℕ → List ℕ)
     (each : (t : ℕ → Bool) (z : ℕ → ℕ) → all (map t (range_with_len 0 size)) (map z (range_with_len 0 size)) ≡ flat_map (λ i. pack (t i) (z i)) (range_with_len 0 size)) where
   abbrev packs : ℕ → List ℕ

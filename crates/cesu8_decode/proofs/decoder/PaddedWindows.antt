@@ -1,4 +1,5 @@
--- The window of at most 64 bytes, with zeros after them.
+-- The window of at most 64 bytes, with zeros after them, for `window_of_short` of
+-- `lanes/windows.rt` and for `pass/short.rt`.
 use Rattle.std.proofs.Common.{◌≡◌, ℕ, ◌+◌, ◌^◌, ◌<◌, ◌≤◌, ⊎_elim, Bool, true, false, not, ◌&&◌, ◌||◌, eqb, ltb, List, ◌++◌, length, take, replicate, get_or, bit_and, sym, ap, ◌∙◌, arith, w64, zero-add}
 use Rattle.std.specs.Int.{bit_not}
 use Rattle.std.proofs.lemmas.Bool.{cases_lt, le-ltb}
@@ -88,7 +89,7 @@ module _ (f : Flavor) (bytes : List ℕ) (changed : ℕ) (given : AreChanges f b
   of_changed : HasBits changed (λ i. ltb i n && is_changed_at f bytes (0 + i))
   of_changed = bits_from (is_changed_at f bytes) 0 n given.marks
 
-  -- In MUTF-8, those of these characters that begin with C0 are C0 80.
+  -- In MUTF-8, the characters marked by `changed` that begin with C0 are C0 80.
   pub nulls_of_changed : (lanes : List ℕ) (c0 : ℕ) → ((i : ℕ) → i < n → get_or lanes i 0 ≡ get_or bytes i 0) → HasBits c0 (λ i. eqb (get_or lanes i 0) 0xC0) →
       HasBits (bit_and changed c0) (λ i. ltb i n && is_null_at f bytes (0 + i))
   nulls_of_changed lanes c0 alike of_c0 = by_equal_test (λ i. ltb i n && is_null_at f bytes (0 + i)) tested (and_bits of_changed of_c0)
@@ -109,7 +110,7 @@ module _ (f : Flavor) (bytes : List ℕ) (changed : ℕ) (given : AreChanges f b
   pub no_nulls_of_changed : (f ≡ Mutf8 → ⊥) → HasBits 0 (λ i. ltb i n && is_null_at f bytes (0 + i))
   no_nulls_of_changed other = grind (arith, nat_tests, by_equal_test, no_null_of, dropped, no_bits)
 
-  -- The others are surrogate pairs, and no byte of the window is ill-formed.
+  -- The other characters marked by `changed` are surrogate pairs, and no byte is ill-formed.
   pub changed_is_window : (nulls : ℕ) → n ≤ 64 → changed < 2 ^ 64 → nulls < 2 ^ 64 → HasBits nulls (λ i. ltb i n && is_null_at f bytes (0 + i)) →
       IsWindow f bytes 0 (record { ill_formed = 0; pairs = bit_and changed (bit_not w64 nulls); nulls = nulls; len = n })
   changed_is_window nulls few changed_fits nulls_fit of_nulls = record {

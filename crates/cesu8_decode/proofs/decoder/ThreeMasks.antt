@@ -7,14 +7,15 @@ use Rattle.cesu8_decode.specs.Masks.{HasBits, has_bit_below, is_long_lead_at, is
 use Rattle.cesu8_decode.proofs.decoder.MaskBits.{by_equal_test, and_bits, or_bits, without_bits, later_bits, no_bits, none_set}
 use Rattle.cesu8_decode.proofs.decoder.MaskTests.{whole_by, surrogate_by, pair_by, three_bits, pair_bits, no_surrogate, no_lead_no_three, no_lead_no_pair}
 
--- The masks that the code computes.
+-- The masks that `threes_and_pairs` (`lanes/masks.rt`) computes. `odd` marks the bytes with bit 10
+-- (hexadecimal), `wide` those with bit 20, and `led` the bytes ED.
 abbrev whole_of : (leads second odd : ℕ) → ℕ
 whole_of leads second odd = bit_and (bit_and leads (second / 2)) (bit_not w64 odd)
 
 abbrev surrogates_of : (leads second wide odd led : ℕ) → ℕ
 surrogates_of leads second wide odd led = bit_and (bit_and (whole_of leads second odd) (wide / 2)) led
 
--- These masks have 64 bits.
+-- If a has at most 64 bits, so has a & b.
 pub and_fits : (a b : ℕ) → a < 2 ^ 64 → bit_and a b < 2 ^ 64
 and_fits a b fits = omega (arith, and_le_l a b)
 

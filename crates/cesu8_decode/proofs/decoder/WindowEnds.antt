@@ -39,7 +39,7 @@ module _ {f : Flavor} {bytes : List ℕ} {at : ℕ} {window : Window} (is : IsWi
   pub ill_set : (i : ℕ) → bit_at window.ill_formed i ≡ 1 → (i < is.n) × (is_ill_formed_at f (window_of bytes) (at + i) ≡ true)
   ill_set = marked window.ill_formed (is_ill_formed_at f (window_of bytes)) at is.n is.ill_formed
 
-  -- What a bit of each mask says that is not set, up to the end of the window.
+  -- What an unset bit of each mask says, up to the end of the window.
   pub pair_unset : (i : ℕ) → at ≤ i → i < at + window.len → bit_at window.pairs (i - at) ≡ 0 → is_pair_at f bytes i ≡ false
   pair_unset = unmarked_in window.pairs (is_pair_at f bytes) at is.n is.pairs (at + window.len) (λ i low inside. (none_changes i (is.rest i low inside).0).0)
 

@@ -1,4 +1,5 @@
--- The events of a window and its end, from the masks of the characters that begin in it.
+-- The events of a window and its end, from the masks of the characters that begin in it, as
+-- `window_of_lanes` (`lanes/windows.rt`) computes them.
 use Rattle.std.proofs.Common.{◌≡◌, ℕ, ◌+◌, ◌-◌, ◌*◌, ◌/◌, ◌%◌, ◌^◌, ◌<◌, ◌≤◌, ◌⊎◌, ⊎_elim, inl, inr, Bool, true, false, not, ◌&&◌, ltb, List, length, get_or, bit_and, bit_or, refl, sym, ap, ◌∙◌, arith, mod-lt, w64, zero-add}
 use Rattle.std.specs.Int.{bit_at, bit_not, trailing_ones}
 use Rattle.std.proofs.lemmas.Bool.{cases_lt, cases_Bool, both_ways, le-ltb, eq-eqb}
@@ -20,7 +21,7 @@ use Rattle.cesu8_decode.proofs.decoder.MaskBits.{unset, set_true, run_ones, run_
 use Rattle.cesu8_decode.proofs.decoder.FormMasks.{masks_moved}
 use Rattle.cesu8_decode.proofs.decoder.CoveredMasks.{covered_by, threes_by, threes_mask, covered_mask, Part, formed, from_covered, to_covered}
 
--- The width at an offset is in the window five bytes later.
+-- Five zeros precede the bytes in `window_of`, so the width at an offset is found five bytes later.
 width_at_place : (f : Flavor) (bytes : List ℕ) (p q : ℕ) → q ≡ p + 5 → width_at f (window_of bytes) q ≡ width_at f bytes p
 width_at_place f bytes p q is = ap (width_at f (window_of bytes)) is ∙ width_there f bytes p
 
@@ -176,7 +177,7 @@ module _ (f : Flavor) (bytes : List ℕ) (at n : ℕ) (boundary : is_boundary_at
           ap (is_ill_formed_at f (window_of bytes)) (sym place) ∙ not_ill i set,
         )
 
-    -- No character crosses the end of the window, if the byte after it is not covered.
+    -- No character crosses the end of the window, if all that begin in it end within 64 bytes.
     boundary_after : ((i : ℕ) → i < n → i + w i ≤ 64) → is_boundary_at f (window_of bytes) (at + (n + r)) ≡ true
     boundary_after whole = boundary_where f (window_of bytes) (at + (n + r)) (λ s small.
         ⊎_elim (λ (early : n + r + s < 5).
@@ -197,7 +198,8 @@ module _ (f : Flavor) (bytes : List ℕ) (at n : ℕ) (boundary : is_boundary_at
 
 -- ---- the window of a vector
 
--- A vector of 64 bytes has five more than the offsets need, or the bytes have zeros after it.
+-- A vector of 64 bytes agrees with the bytes at n offsets and the five after these: it has them all
+-- if n is at most 59, and otherwise the bytes after it are zeros.
 pub loaded_alike : (bytes : List ℕ) (at n : ℕ) → at + 64 ≤ length bytes →
     (n ≤ 59) ⊎ ((n ≤ 64) × ((i : ℕ) → at + 64 ≤ i → i < at + 64 + 5 → get_or bytes i 0 ≡ 0)) →
     (i : ℕ) → i < n + 5 → get_or (chunk at 64 bytes) i 0 ≡ get_or bytes (at + i) 0

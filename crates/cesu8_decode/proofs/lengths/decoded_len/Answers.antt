@@ -1,5 +1,6 @@
 -- The text is the unchanged prefix and then the text of the rest, so its length is the sum. If no
--- byte of the rest is ill-formed, its strict reading is its lossy one, which is no longer than it.
+-- byte of the rest is ill-formed, its strict reading is its lossy one, which is no longer than the
+-- rest. So neither `lossy_len` nor the sum overflows.
 use Rattle.std.proofs.Common.{◌≡◌, ℕ, List, ◌<◌, ◌∙◌, sym, ap, arith, length, take, drop, length-drop, length-append}
 use Rattle.std.proofs.lemmas.Bool.{eqb-true, eqb-false, both_ways}
 use Rattle.std.proofs.lemmas.List.{take_rest, length-take-le}

@@ -1,4 +1,5 @@
--- The lenient mode returns its input unchanged exactly if it is UTF-8, in either encoding.
+-- The lenient mode returns its input unchanged exactly if it is UTF-8, in either encoding. The
+-- function calls `lenient_prefix` for CESU-8.
 use Rattle.std.proofs.Common.{eq-eqb}
 use Rattle.std.proofs.lemmas.Bool.{eqb-true}
 use Rattle.cesu8_decode.proofs.modes.is_utf8.Goals as goal

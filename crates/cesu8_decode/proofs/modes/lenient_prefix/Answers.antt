@@ -1,6 +1,6 @@
 -- If the bytes are UTF-8 and the prefix is not all of them, the byte after it begins a character
--- that needs conversion (`changed_after`): it is 00 or leads four bytes. So no other byte needs a
--- test.
+-- that the encoding writes otherwise (`changed_after`): it is 00 or leads four bytes. So if
+-- another byte is there, the bytes are not UTF-8.
 use Rattle.std.proofs.Common.{◌≡◌, ◌≤◌, ◌⊎◌, ⊎_elim, ℕ, arith, subst, sym}
 use Rattle.std.specs.Str.{IsUtf8}
 use Rattle.std.proofs.lemmas.Bool.Decides.{nat_tests}
@@ -14,7 +14,7 @@ use Rattle.cesu8_decode.proofs.chunks.UnchangedPrefixes.{all_kept, changed_after
 use Rattle.cesu8_decode.proofs.modes.lenient_prefix.Goals as goal
 use Rattle.cesu8_decode.proofs.modes.lenient_prefix.Goals.{then-prefix-bytes-via-then-prefix-bytes, then-prefix-bytes-via-else-prefix-bytes+then-not-matches, in_default, in_default-2, in-0, in-0-2}
 
--- A byte of UTF-8 that needs conversion is 00 or the lead byte of four bytes.
+-- A byte of UTF-8 that the encoding writes otherwise is 00 or the lead byte of four bytes.
 changed_is : (f : Flavor) (b : ℕ) → IsChangedByte f b → (b ≡ 0) ⊎ ((0xF0 ≤ b) × (b ≤ 0xF7))
 changed_is Cesu8 b is = grind (arith, nat_tests)
 changed_is Mutf8 b is = grind (arith, nat_tests)

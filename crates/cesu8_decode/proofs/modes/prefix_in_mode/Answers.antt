@@ -1,5 +1,5 @@
--- Each mode returns what it keeps. For the encoding alone, the unchanged prefix is all bytes exactly
--- if nothing in them needs conversion.
+-- In the mode `Lenient` the result is that of `lenient_prefix`. The mode `EncodingAlone` returns
+-- input unchanged exactly if the unchanged prefix is all of it.
 use Rattle.cesu8_decode.proofs.chunks.UnchangedPrefixes.{all_unchanged, found_unless_kept}
 use Rattle.cesu8_decode.proofs.modes.prefix_in_mode.Goals as goal
 

@@ -1,5 +1,5 @@
 -- All bytes before `at` can follow the bytes before them. At least four bytes precede `at`, which
--- decide whether the next ones can follow (`DECIDING`). Each step adds a block, so the loop ends.
+-- decide whether the next ones can follow (`DECIDING`). Each step raises `at`, so the loop ends.
 use Rattle.std.proofs.Common.{◌-◌, ◌≤◌, length}
 use Rattle.cesu8_decode.specs.Following.{FirstFollow}
 use Rattle.cesu8_decode.proofs.prefix.following_from.Given as goal

@@ -9,7 +9,7 @@ use Rattle.cesu8_decode.proofs.chunks.LongestPrefixes.{crosses_next, crosses_sec
 use Rattle.cesu8_decode.proofs.decoder.ErrorMasks.{after_the_fillers}
 use Rattle.cesu8_decode.proofs.prefix.last_boundary.Goals as goal
 
--- The first four bytes are the zeros before the bytes.
+-- The first four bytes of `after_fillers` are zeros.
 filler : (bytes : List ℕ) (i : ℕ) → i < 4 → get_or (after_fillers bytes) i 0 ≡ 0
 filler bytes i near = eqb-true _ _ (agree_below_at (λ i. eqb (get_or (after_fillers bytes) i 0) 0) (λ _. true) 4 i refl near)
 
@@ -23,7 +23,7 @@ none_cut : (s : CharacterSet) (f : Flavor) (bytes : List ℕ) (at : ℕ) → Fol
 none_cut s f bytes at up_to none last second =
     prefix_at s f bytes at at up_to (omega arith) (rw (lt-leb 0xC0 _ last, lt-leb 0xE0 _ second, none) refl) (λ k past inside. absurd (omega (arith, past, inside)))
 
--- No byte precedes `at`, so none is cut off.
+-- No byte precedes `at`, so no character is cut off.
 pub returns-then-at-eq0 : goal.returns-then-at-eq0
 returns-then-at-eq0 g c =
     let s = g.S.CharacterSet.set in

@@ -1,6 +1,6 @@
 -- Each pass adds to the text of the bytes that were read before (`reads_on`), so after the last
 -- byte the vector ends with the text of all of them. What is decoded so far never has more bytes
--- than the text of the input (`decoded_fits`), so the next chunk fits the capacity.
+-- than the text of the input can have (`decoded_fits`), so the next chunk fits the capacity.
 use Rattle.std.proofs.Common.{◌≡◌, ◌∙◌, false, true, refl, sym, subst, arith, take, length, length-append}
 use Rattle.std.proofs.lemmas.List.{length-take-le}
 use Rattle.cesu8_decode.specs.Decoding.{IsDecoded}

@@ -39,7 +39,8 @@ returns-clause-next g c =
       capacity = c.truncate.ensures.capacity ∙ c.append_zeros.ensures.capacity;
     }
 
--- If the pass writes to an array first, what it wrote there is appended, or nothing is.
+-- If the pass writes to an array first, what it wrote there is appended, or nothing if strict
+-- decoding rejects a byte.
 pub slice_bounds-written-end : goal.slice_bounds-written-end
 slice_bounds-written-end g c = c.write_windows-pass.ensures.more.inside
 
@@ -68,7 +69,7 @@ returns-else-not-pass-clause-next g c = record {
   capacity = refl;
 }
 
--- If it writes to the vector, the zeros that were appended are long enough.
+-- If it writes to the vector, at least `ROOM` zeros were appended, which is what it needs.
 pub write_windows-pass-requires-2-clause-room : goal.write_windows-pass-requires-2-clause-room
 write_windows-pass-requires-2-clause-room g c =
     simp take_rest (omega (

@@ -1,5 +1,5 @@
 -- So far the lossy reading of the first `read` bytes is at the start of the slice, and the bytes
--- after `end` are unchanged. Each pass ends later, so the loop ends.
+-- after `end` are unchanged. Each pass reads at least one byte, so the loop ends.
 use Rattle.std.proofs.Common.{◌≡◌, ◌-◌, ◌≤◌, false, [], length, take, drop}
 use Rattle.cesu8_bytes.specs.declared.strictness.Strictness.TheVariants.{Lossy}
 use Rattle.cesu8_decode.specs.Decoding.{IsDecoded, IsPass}

@@ -1,5 +1,5 @@
 -- If the unchanged prefix is all bytes, they are their own text, and appending them is decoding
--- them. Otherwise `append_short_strictly` is called, and its contract is the same.
+-- them. Otherwise `append_short_strictly` is called, which promises what `append_last` does.
 use Rattle.std.proofs.Common.{◌++◌, ◌∙◌, sym, ap, arith, drop, length-drop}
 use Rattle.std.proofs.lemmas.List.{take_all}
 use Rattle.cesu8_bytes.specs.declared.strictness.Strictness.TheVariants.{Strict}

@@ -7,7 +7,8 @@ use Rattle.std.specs.List.{range_with_len}
 use lib.Lanes.{chunk, pick_l}
 use Rattle.cesu8_decode.proofs.lanes.following.block_after.Goals as goal
 
--- A shuffle of two vectors is 32 successive bytes of the window.
+-- A shuffle of two vectors is 32 successive bytes of the window, which begins at lane 28 of the
+-- two: four bytes (`DECIDING`) before the block.
 picked : (lanes : List ℕ) (k : ℕ) → 28 + k + 32 ≤ length lanes → pick_l 0 lanes (range_with_len (28 + k) 32) ≡ chunk k 32 (drop 28 lanes)
 picked lanes k room = pick_l-range_with_len 0 lanes (28 + k) 32 room ∙ ap (take 32) (sym (drop-drop k 28 lanes))
 

@@ -1,5 +1,5 @@
--- If the set has C0 80, the comparison with 80 chooses the mask of each lane. Otherwise all masks
--- are FF.
+-- If the set has C0 80, the mask of each lane that is 80 is EF (hexadecimal), which lacks the bit
+-- `OVERLONG_C0`. All other masks are FF.
 use Rattle.std.proofs.Common.{◌≡◌, ◌∙◌, eqb, sym, ap, true}
 use Rattle.cesu8_bytes.proofs.lists.Lanes.{chosen_lanes}
 use Rattle.cesu8_decode.specs.Following.{has_changed}

@@ -1,5 +1,6 @@
--- The saturating subtraction leaves the highest bit exactly for E0 and more. If the set has
--- surrogate pairs, ED and a byte from A0 to AF also require the second byte of a low surrogate.
+-- The saturating subtraction of 60 (hexadecimal) leaves the highest bit exactly for E0 and more. If
+-- the set has surrogate pairs, ED and a byte from A0 to AF also require the second byte of a low
+-- surrogate.
 use Rattle.std.proofs.Common.{◌∙◌, refl, sym, ap}
 use Rattle.std.proofs.lemmas.Bool.{not-true, not-false}
 use Rattle.cesu8_decode.proofs.decoder.FollowingLanes.{third_are, alone_are, required_are, led_are}

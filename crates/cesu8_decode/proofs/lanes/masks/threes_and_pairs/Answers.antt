@@ -1,5 +1,6 @@
--- Lead bytes of three bytes whose second byte is in range begin characters. The others after ED can
--- be halves of pairs, which are pairs if a low surrogate follows a high one.
+-- A lead byte from E0 to EF that precedes two continuation bytes begins a character of three bytes
+-- if the second byte is in range. ED before A0 or more begins a surrogate instead. A high surrogate
+-- begins a pair if a low one follows it.
 use Rattle.std.proofs.Common.{eqb, refl, arith}
 use Rattle.cesu8_decode.proofs.decoder.MaskBits.{class_bits, lanes_below}
 use Rattle.cesu8_decode.proofs.decoder.ThreeMasks.{none_are, threes_are, no_pairs_are, pairs_are}

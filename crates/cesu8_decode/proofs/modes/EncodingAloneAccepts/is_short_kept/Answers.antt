@@ -1,4 +1,5 @@
--- ASCII in which no byte changes is UTF-8 in which none changes, which this mode returns unchanged.
+-- ASCII in which no byte needs conversion is UTF-8 in which nothing needs conversion, so this mode
+-- returns it unchanged.
 use Rattle.std.proofs.lemmas.Str.{IsUtf8-from_ascii}
 use Rattle.cesu8_decode.proofs.modes.EncodingAloneAccepts.is_short_kept.Goals as goal
 

@@ -1,5 +1,5 @@
--- Each store begins after the replacement characters that are written. Of the last store only
--- `left` of them count.
+-- Each store begins after the replacement characters that are already written, and writes ten more
+-- (`AT_ONCE`), which are 30 bytes. Of the last store only `left` characters count.
 use Rattle.std.proofs.Common.{◌≡◌, ◌+◌, ◌-◌, ◌*◌, arith, refl, subst, replicate}
 use Rattle.cesu8_text.specs.Text.{utf8, utf8_of}
 use Rattle.cesu8_bytes.specs.Puts.{WritesAt}

@@ -19,7 +19,7 @@ loop-pass-init g c = record {
   fresh = λ _. (c.requires.before.fine, c.requires.before.end);
 }
 
--- The array has the bytes from `first` on, and zeros after them.
+-- The array of 202 bytes (`AROUND`) has the bytes from `first` on, and zeros after them.
 pub are_last : (bytes last new : List ℕ) (first : ℕ) → last ≡ replicate 202 0 → new ≡ drop first bytes ++ drop (length (drop first bytes)) last →
     (k : ℕ) → get_or new k 0 ≡ get_or bytes (first + k) 0
 are_last bytes last new first zeros copied = copied_to_zeros bytes new first 202 last zeros copied

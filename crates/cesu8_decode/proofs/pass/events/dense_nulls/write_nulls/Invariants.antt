@@ -1,4 +1,5 @@
--- Before each round the first `written` bytes of the window, and of those after it, are packed.
+-- Before each round the first `written` of the 64 bytes from the start of the window on are packed.
+-- Some of these can be after its end. A round packs 32 bytes, each of which gives at most one.
 use Rattle.std.proofs.Common.{◌-◌}
 use Rattle.cesu8_decode.proofs.decoder.PackedLanes.{AreStored}
 use Rattle.cesu8_decode.proofs.decoder.EventsPacked.{null_packed}

@@ -1,5 +1,5 @@
--- For the bytes of the window each round writes their text. The bytes after the window, up to the
--- 64th, are one byte each, which the function subtracts.
+-- For the bytes of the window each round writes their text. For each byte after the window, up to
+-- the 64th, one byte is stored. The function subtracts their number from the end.
 use Rattle.std.proofs.Common.{arith, refl}
 use Rattle.cesu8_decode.proofs.decoder.PackedLanes.{none_stored, stored_most, stored_after, stored_text}
 use Rattle.cesu8_decode.proofs.decoder.EventsPacked.{replaced_packed, half_stored}

@@ -1,5 +1,5 @@
 -- Before each round the first `written` of the 64 bytes from the start of the window on are packed.
--- Some of these can be after its end.
+-- Some of these can be after its end. A round packs 16 bytes, each of which gives at most three.
 use Rattle.std.proofs.Common.{◌-◌}
 use Rattle.cesu8_decode.proofs.decoder.PackedLanes.{AreStored}
 use Rattle.cesu8_decode.proofs.decoder.EventsPacked.{replaced}
