@@ -74,7 +74,7 @@ fn decode_step(flavor: FlavorWord, bytes: &[u8], is_last: bool, room: &mut [u8])
     after(decode(flavor, bytes, room), is_last)
 }
 
-/// Replaces the next byte, if the step before stopped at it.
+/// Decodes, or replaces the first byte if it is damaged.
 fn lossy_step(flavor: FlavorWord, bytes: &[u8], is_last: bool, room: &mut [u8]) -> Step
     ensures { IsStep (Conversion.Lossy flavor) bytes.now is_last room.new result }
 {
@@ -98,7 +98,7 @@ fn mixed_step(flavor: FlavorWord, bytes: &[u8], is_last: bool, room: &mut [u8]) 
     pass_step(flavor, bytes, is_last, room)
 }
 
-/// Replaces the next byte, if the step before stopped at it.
+/// Takes a mixed step, or replaces the first byte if it is damaged.
 fn mixed_lossy_step(flavor: FlavorWord, bytes: &[u8], is_last: bool, room: &mut [u8]) -> Step
     ensures { IsStep (Conversion.MixedLossy flavor) bytes.now is_last room.new result }
 {
@@ -119,7 +119,8 @@ fn front_step(flavor: FlavorWord, bytes: &[u8], len: usize, is_last: bool, room:
     }
 }
 
-/// Copies the character of UTF-8 that begins the bytes, if only UTF-8 has it. Otherwise it decodes.
+/// Copies the character of UTF-8 that begins the bytes, if the encoding writes it in another way.
+/// Otherwise it decodes.
 fn pass_step(flavor: FlavorWord, bytes: &[u8], is_last: bool, room: &mut [u8]) -> Step
     ensures { IsStep (Conversion.Mixed flavor) bytes.now is_last room.new result }
 {
@@ -234,7 +235,8 @@ fn encoded_len(flavor: FlavorWord, bytes: &[u8]) -> usize
 {
     let most = bytes.len().min(WINDOW);
     let (blocks, rest) = bytes[..most].as_chunks::<32>();
-    // In CESU-8 no other byte than those from F0 on: FF is one of them.
+    // Bytes from F0 on are found in both encodings, and in MUTF-8 also 00. FF in place of 00 finds
+    // no more.
     let other = u8x32::splat(match flavor {
         FlavorWord::Cesu8 => 0xFF,
         FlavorWord::Mutf8 => 0,
