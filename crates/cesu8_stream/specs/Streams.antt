@@ -1,5 +1,5 @@
--- What the calls promise that stop at ill-formed bytes: `decode_strict` and `encode`. The module
--- `Lossy` has what `decode_lossy_strict` promises.
+-- The promises of the calls that stop at ill-formed bytes: `decode_strict` and `encode`. The module
+-- `Lossy` has that of `decode_lossy_strict`.
 use Rattle.std.specs.Prelude.{◌≡◌, ℕ, ◌+◌, ◌-◌, ◌<◌, ◌≤◌, ◌↔◌, List, [], length, drop}
 use Rattle.cesu8_stream.specs.Written.{Begins, Converts, NeverBegins, IsPartial, BeginsLonger}
 use Rattle.cesu8_stream.specs.declared.progress.Progress.{Progress}

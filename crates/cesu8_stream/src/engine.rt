@@ -1,6 +1,6 @@
 //! Converts as much of the input as fits in the buffer. `convert_window` tries to convert in one
-//! call as many bytes as the buffer has. `convert_rest` repeats `step`, which converts some characters, until none
-//! is left that is whole and fits, and then says why it stopped.
+//! call as many bytes as the buffer has. `convert_rest` repeats `step`, which converts some
+//! characters, until none is left that is whole and fits, and then says why it stopped.
 
 ghost use Rattle.std.specs.Prelude.{◌≡◌, ℕ, ◌<◌, ◌≤◌, List, ◌∷◌, [], length, take};
 ghost use Rattle.cesu8_stream.specs.Written.{IsWritten, Begins, BeginsNone, Converts};

@@ -1,7 +1,7 @@
 //! One step of a conversion: from the unread bytes of the input to a part of the output, both in
-//! memory. A step converts the whole characters at the start of the bytes, by `cesu8_stream`. If it
-//! stops before a byte that begins none, the next step replaces that byte or, for the mixed
-//! commands, copies a character of UTF-8.
+//! memory. A step converts the whole characters at the start of the bytes, by `cesu8_stream`. If a
+//! byte begins none, the mixed commands first try to copy a character of UTF-8. Otherwise the lossy
+//! commands replace the byte, and the others stop.
 
 ghost use Rattle.std.specs.Prelude.{◌≡◌, ◌≤◌, length, IsTrue, IsUtf8};
 ghost use Rattle.simd_cesu8.specs.Text.{utf8};
@@ -20,7 +20,8 @@ use std::simd::u8x32;
 /// U+FFFD in UTF-8.
 const REPLACEMENT: [u8; 3] = [0xEF, 0xBF, 0xBD];
 
-/// How many bytes a mixed step searches for a character of UTF-8. It reads only these twice.
+/// How many bytes a mixed step searches for a byte that only UTF-8 has. Only these are read twice:
+/// by the search, and by `decode`.
 const WINDOW: usize = 4096;
 
 /// What a step did, and what it needs to go on.
