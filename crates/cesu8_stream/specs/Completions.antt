@@ -1,4 +1,5 @@
--- How a truncated character becomes whole again: by the missing bytes of a fixed character.
+-- How a truncated character becomes whole again: by the missing bytes of a fixed character. These
+-- are the characters that `completions` in conversion.rt returns, padded with zeros to six bytes.
 use Rattle.std.specs.Prelude.{ℕ, List, [], ◌∷◌, ◌++◌, length, drop}
 use Rattle.cesu8_stream.specs.Written.{Begins}
 
@@ -9,13 +10,13 @@ pair_bytes = 0xED ∷ 0xA0 ∷ 0x80 ∷ 0xED ∷ 0xB0 ∷ 0x80 ∷ []
 abbrev pub null_bytes : List ℕ
 null_bytes = 0xC0 ∷ 0x80 ∷ 0 ∷ 0 ∷ 0 ∷ 0 ∷ []
 
--- In UTF-8: U+100000, whose second byte is low, and U+20000, whose second byte is high.
+-- In UTF-8: U+100000, whose second byte is low (80), and U+20000, whose second byte is high (A0).
 abbrev pub low_bytes : List ℕ
 low_bytes = 0xF4 ∷ 0x80 ∷ 0x80 ∷ 0x80 ∷ 0 ∷ 0 ∷ []
 
 abbrev pub high_bytes : List ℕ
 high_bytes = 0xF0 ∷ 0xA0 ∷ 0x80 ∷ 0x80 ∷ 0 ∷ 0 ∷ []
 
--- The bytes, and after them those of the other character from there on, begin with a character.
+-- The bytes, filled up to the length of `character` by its last bytes, begin with a character.
 abbrev pub IsCompletedBy : (List ℕ → List ℕ) → (character bytes : List ℕ) → Type 0
 IsCompletedBy write character bytes = (c : ℕ) × Begins write (bytes ++ drop (length bytes) character) c

@@ -8,8 +8,8 @@ use Rattle.simd_cesu8.specs.Reading.{reading}
 use Rattle.cesu8_stream.specs.Written.{IsWritten}
 use Rattle.cesu8_stream.specs.Lossy.{MayFollow}
 
--- A call is given what the one before left, and then a piece, which may be empty. It reads so many
--- bytes, as this text.
+-- A call is given what the one before left, and then `piece`, which may be empty. It reads `read`
+-- bytes of these, as the text `text`. `is_last` says that only empty pieces follow.
 pub record Call : Type 0 where
   pub piece : List ℕ
   pub is_last : Bool
@@ -27,8 +27,8 @@ texts calls = flat_map (λ call. call.text) calls
 abbrev pub outputs : (List ℕ → List ℕ) → List Call → List ℕ
 outputs to calls = flat_map (λ call. to call.text) calls
 
--- Calls in a row that convert what is well-formed: the bytes that each one reads are its text.
--- Before them `kept` is left, and after them `rest`.
+-- Calls in a row that convert what is well-formed: what each one reads is its text, as `from`
+-- writes it. Before the first one `kept` is left, and after the last one `rest`.
 abbrev pub ConvertInTurn : (List ℕ → List ℕ) → List ℕ → List Call → List ℕ → Type 0
 ConvertInTurn from kept [] rest = kept ≡ rest
 ConvertInTurn from kept (call ∷ calls) rest =
@@ -52,7 +52,8 @@ StrictInPieces = (f : Flavor) (calls : List Call) (rest : List ℕ) → ConvertI
     IsText (texts calls) × (pieces calls ≡ encoding f (texts calls) ++ rest)
     × (outputs utf8 calls ≡ utf8 (texts calls))
 
--- Likewise from UTF-8 to an encoding.
+-- `StrictInPieces` for calls from UTF-8 to an encoding. What was written, joined, is the encoding
+-- of the texts joined.
 abbrev pub EncodedInPieces : Type 0
 EncodedInPieces = (f : Flavor) (calls : List Call) (rest : List ℕ) → ConvertInTurn utf8 [] calls rest →
     IsText (texts calls) × (pieces calls ≡ utf8 (texts calls) ++ rest)

@@ -12,7 +12,7 @@ abbrev pub MayFollow : Bool → List ℕ → Type 0
 MayFollow is_last more = is_last ≡ true → more ≡ []
 
 -- The UTF-8 of some text is at the front of the buffer, whose rest is unchanged. Whatever follows
--- the bytes, all of it is read as that text, and then as what is left is read.
+-- the bytes, the reading of all is that text, followed by the reading of what is left.
 abbrev pub ReadsOn : (List ℕ → List ℕ) → Bool → List ℕ → ℕ → ℕ → List ℕ → List ℕ → Type 0
 ReadsOn reading is_last bytes read written old new =
     (text : List ℕ) × IsText text × StandsAtFront (utf8 text) written old new
@@ -23,13 +23,14 @@ ReadsOn reading is_last bytes read written old new =
 abbrev pub StaysForNext : (List ℕ → List ℕ) → Bool → List ℕ → Type 0
 StaysForNext from is_last bytes = (is_last ≡ false) × IsPartial from bytes
 
--- The first byte is replaced by U+FFFD: no character begins the bytes, and none may.
+-- The first byte is replaced by U+FFFD: no character begins the bytes, and they are no part of one
+-- that the next piece may complete.
 pub record IsReplaced (from : List ℕ → List ℕ) (is_last : Bool) (bytes : List ℕ) : Type 0 where
   pub nonempty : bytes ≢ []
   pub none_begins : BeginsNone from bytes
   pub none_stays : ¬ (StaysForNext from is_last bytes)
 
--- What comes next takes more bytes than this: a character, or the three of U+FFFD.
+-- What comes next takes more than `len` bytes: a character, or the three bytes of U+FFFD.
 abbrev pub NextIsLonger : (List ℕ → List ℕ) → Bool → List ℕ → ℕ → Type 0
 NextIsLonger from is_last bytes len = BeginsLonger from utf8 bytes len ⊎ (IsReplaced from is_last bytes × (len < 3))
 
@@ -40,8 +41,8 @@ is_damage Incomplete is_last = is_last
 is_damage OutputFull is_last = false
 is_damage Malformed is_last = true
 
--- How far a call came that replaces what is ill-formed, and why it stopped. `from` writes the
--- encoding and `reading` is its lossy reading.
+-- How far a call that replaces ill-formed bytes came, and why it stopped. `from` writes the
+-- encoding, and `reading` is its lossy reading. `old` and `new` are the buffer before and after.
 pub record DecodesPiece (from reading : List ℕ → List ℕ) (is_last : Bool) (bytes : List ℕ) (result : Progress) (old new : List ℕ) : Type 0 where
   pub text : ReadsOn reading is_last bytes result.read result.written old new
   pub within : result.read ≤ length bytes

@@ -1,4 +1,5 @@
--- What the calls of this crate promise.
+-- The promises of the calls that stop at ill-formed bytes: `decode_strict` and `encode`. The module
+-- `Lossy` has that of `decode_lossy_strict`.
 use Rattle.std.specs.Prelude.{◌≡◌, ℕ, ◌+◌, ◌-◌, ◌<◌, ◌≤◌, ◌↔◌, List, [], length, drop}
 use Rattle.cesu8_stream.specs.Written.{Begins, Converts, NeverBegins, IsPartial, BeginsLonger}
 use Rattle.cesu8_stream.specs.declared.progress.Progress.{Progress}
@@ -14,8 +15,8 @@ pub record IsStateOf (from : List ℕ → List ℕ) (rest : List ℕ) (state : S
   pub output_full : (state ≡ OutputFull) ↔ ((c : ℕ) × Begins from rest c)
   pub few_left : state ≡ Incomplete → length rest ≤ 5
 
--- How far a call came that converts what is well-formed, and why it stopped. A character has at
--- most `widest` bytes in the output.
+-- How far a call that converts what is well-formed came, and why it stopped. A character has at
+-- most `widest` bytes in the output. `old` and `new` are the buffer before and after the call.
 pub record ConvertsPiece (from to : List ℕ → List ℕ) (widest : ℕ) (bytes : List ℕ) (result : Progress) (old new : List ℕ) : Type 0 where
   -- The bytes that were read are a text, which was written.
   pub text : Converts from to bytes result.read result.written old new

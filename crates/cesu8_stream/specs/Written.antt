@@ -5,11 +5,11 @@ use Rattle.std.specs.Prelude.{◌≡◌, ℕ, ◌+◌, ◌<◌, ◌≤◌, ◌�
 use Rattle.simd_cesu8.specs.Text.{IsScalarValue, IsText}
 use Rattle.simd_cesu8.specs.Slices.{StandsAtFront}
 
--- The bytes are this text, written so.
+-- The bytes are this text in this way of writing.
 abbrev pub IsWritten : (List ℕ → List ℕ) → List ℕ → List ℕ → Type 0
 IsWritten write bytes text = IsText text × (write text ≡ bytes)
 
--- The bytes begin with this character, written so.
+-- The bytes begin with this character in this way of writing.
 pub record Begins (write : List ℕ → List ℕ) (bytes : List ℕ) (c : ℕ) : Type 0 where
   pub scalar : IsScalarValue c
   pub rest : List ℕ

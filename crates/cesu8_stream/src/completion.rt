@@ -18,7 +18,7 @@ pub fn may_begin<C: Conversion>(bytes: &[u8]) -> bool
     C::valid_up_to(&completed(bytes, first)) > 0 || C::valid_up_to(&completed(bytes, second)) > 0
 }
 
-/// Returns the bytes, and after them those of the character from there on.
+/// Returns the bytes, filled up to six by the last bytes of `character`.
 fn completed(bytes: &[u8], character: [u8; 6]) -> [u8; 6]
     requires { length bytes.now ≤ 6 }
     ensures { result ≡ bytes.now ++ drop (length bytes.now) character }

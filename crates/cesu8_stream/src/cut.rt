@@ -7,7 +7,8 @@ use crate::conversion::{Conversion, LONGEST};
 use crate::engine::first_len;
 
 /// Returns whether no character begins before this place and ends after it, whatever follows the
-/// bytes. A character that does begins at most five bytes before it.
+/// bytes. A character that crosses the place begins at most five bytes before it and ends at most
+/// five after it.
 pub fn is_cut<C: Conversion>(bytes: &[u8], place: usize) -> bool
     requires { place + 5 ≤ length bytes.now }
     ensures { result ≡ true → (more : List ℕ)

@@ -1,6 +1,6 @@
-//! Converts as much of the input as fits in the buffer. `convert_window` takes in one call what the
-//! buffer surely holds. `convert_rest` repeats `step`, which converts some characters, until none
-//! is left that is whole and fits, and then says why it stopped.
+//! Converts as much of the input as fits in the buffer. `convert_window` tries to convert in one
+//! call as many bytes as the buffer has. `convert_rest` repeats `step`, which converts some
+//! characters, until none is left that is whole and fits, and then says why it stopped.
 
 ghost use Rattle.std.specs.Prelude.{◌≡◌, ℕ, ◌<◌, ◌≤◌, List, ◌∷◌, [], length, take};
 ghost use Rattle.cesu8_stream.specs.Written.{IsWritten, Begins, BeginsNone, Converts};
@@ -55,8 +55,9 @@ pub fn convert_rest<C: Conversion>(bytes: &[u8], buf: &mut [u8]) -> Progress
     }
 }
 
-/// Converts the whole characters of the input, if they are no longer than the buffer. It converts
-/// nothing if a byte is ill-formed: then `convert_rest` reads the bytes again.
+/// Converts the whole characters of the input, up to as many bytes as the buffer has. It converts
+/// nothing if one of these bytes is ill-formed or the output does not fit: then the caller converts
+/// them in another way.
 pub fn convert_window<C: Conversion>(bytes: &[u8], buf: &mut [u8]) -> Moved
     ensures moves { Converts C.from C.to bytes.now result.read result.written buf.old buf.new }
     ensures within { result.read ≤ length bytes.now }

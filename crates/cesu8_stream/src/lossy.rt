@@ -1,7 +1,7 @@
-//! Decodes bytes that may be damaged: first what `lossy_windows` decodes in few calls. Then it
-//! converts what is well-formed, writes U+FFFD for the byte at which that stops, and goes on after
-//! it. That is the lossy reading, since it replaces each byte that is in no encoded character, and
-//! only these.
+//! Decodes bytes that may be damaged. First `lossy_windows` decodes what it can in few calls. Then
+//! a loop converts what is well-formed, writes U+FFFD for the byte at which that stops, and goes on
+//! after it. That is the lossy reading, since it replaces each byte that is in no encoded
+//! character, and only these.
 
 ghost use Rattle.std.specs.Prelude.{◌≡◌, ◌<◌, ◌≤◌, ◌∷◌, true, false, length, drop};
 ghost use Rattle.cesu8_stream.specs.Lossy.{DecodesPiece, is_damage};

@@ -1,4 +1,5 @@
-//! Bytes of UTF-8 as text, by the tests of `simdutf8`.
+//! Bytes of UTF-8 as text, by the tests of `simdutf8`. Those of `basic` only say whether the bytes
+//! are UTF-8, and those of `compat` also how long their valid prefix is.
 
 ghost use Rattle.std.specs.Prelude.{◌≡◌, ℕ, ◌<◌, ◌≤◌, List, length, take, drop, IfSome, IfNone, IsUtf8};
 ghost use Rattle.simd_cesu8.specs.Text.{utf8};

@@ -11,7 +11,8 @@ abbrev pub is_null : Flavor → ℕ → Bool
 is_null Cesu8 b = false
 is_null Mutf8 b = b == 0
 
--- F0 to F7 (hexadecimal). In UTF-8, F0 to F4 lead four bytes, and F5 to F7 never occur.
+-- F0 to F7 (hexadecimal), whose upper five bits are 11110. In UTF-8, F0 to F4 lead four bytes, and
+-- F5 to F7 never occur.
 abbrev pub is_four : ℕ → Bool
 is_four b = nat_le 0xF0 b && nat_le b 0xF7
 

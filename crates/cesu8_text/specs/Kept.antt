@@ -10,7 +10,8 @@ pub record ReadsEncoding (f : Flavor) (bytes : List ℕ) (reads reads_lossily : 
   pub strictly : (text : List ℕ) → reads text ↔ IsStrictReading f bytes text
   pub lossily : (text : List ℕ) → reads_lossily text ↔ text ≡ reading f bytes
 
--- What strict and lossy decoding return for the bytes, in a mode that returns some input unchanged.
+-- What strict and lossy decoding return for the bytes (`reads`, `reads_lossily`), in a mode that
+-- returns them unchanged if `keeps` holds.
 pub record KnowsTexts (f : Flavor) (bytes : List ℕ) (keeps : Type 0) (reads reads_lossily : List ℕ → Type 0) : Type 0 where
   -- Only UTF-8 is kept, and UTF-8 in which nothing changes is always kept. Kept input decodes to
   -- its own characters.

@@ -7,7 +7,7 @@ use Rattle.cesu8_text.specs.Text.{utf8}
 abbrev pub StandsAtFront : List ℕ → ℕ → List ℕ → List ℕ → Type 0
 StandsAtFront answer len old new = (len ≡ length answer) × (new ≡ answer ++ drop len old)
 
--- There is a reading the length of whose UTF-8 has the property.
+-- There is a reading, and the length of its UTF-8 has the property `IsLength`.
 abbrev pub ReadsAtLength : (List ℕ → Type 0) → (ℕ → Type 0) → Type 0
 ReadsAtLength IsReading IsLength = (text : List ℕ) × IsReading text × IsLength (length (utf8 text))
 

@@ -72,7 +72,7 @@ converts-append concat c is_last a p rest x y h k = record {
       ∙ sym (written-append concat c h.text k.text);
 }
 
--- Nothing becomes nothing.
+-- No bytes are converted to no bytes.
 pub text-nil : (c : Conversion) (is_last : Bool) (ahead : List ℕ) → IsTextOf c is_last [] ahead []
 unfolding encoding
 text-nil (Encode word) is_last ahead = (tt, refl)
@@ -96,7 +96,7 @@ converts-nil c is_last ahead = record {
   written_is = written-nil c;
 }
 
--- What was converted whatever follows stays so if more input is read, or none is left.
+-- What is right whatever follows is also right if more input is read, or if none is left.
 pub text-read : (c : Conversion) (is_last : Bool) (a ahead more s : List ℕ) → IsTextOf c false a ahead s →
     IsTextOf c is_last a (ahead ++ more) s
 text-read (Encode word) is_last a ahead more s h = h
@@ -116,12 +116,12 @@ converts-read c is_last a ahead more x h = record {
   written_is = h.written_is;
 }
 
--- Nothing may follow in any case.
+-- The input may always end here.
 pub may-end : (is_last : Bool) → MayFollow is_last []
 may-end true = refl
 may-end false = tt
 
--- Nothing has the empty reading.
+-- The lossy reading of no bytes is empty.
 pub reading-nil : (f : Flavor) → reading f [] ≡ []
 unfolding reading
 reading-nil f = refl

@@ -291,7 +291,8 @@ pub first-replaced : (c d : Conversion) (bytes : List ℕ) (is_last : Bool) → 
 first-replaced c d [] is_last replaces some damage = absurd (omega arith)
 first-replaced c d (byte ∷ rest) is_last replaces some damage = replaces byte rest damage
 
--- A step of a conversion that stops becomes one of the conversion that replaces damage.
+-- A step of a conversion `c` that stops at damage becomes one of the conversion `d` that replaces
+-- it, by the function `replace` in step.rt.
 pub replaced-step : (c d : Conversion) (bytes : List ℕ) (is_last : Bool) (old new : List ℕ) (step result : Step) →
     ((taken ahead x : List ℕ) → Converts c is_last taken ahead x → Converts d is_last taken ahead x) →
     ((byte : ℕ) (rest : List ℕ) → IsDamagedAhead c is_last (byte ∷ rest) →

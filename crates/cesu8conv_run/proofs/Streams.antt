@@ -1,6 +1,6 @@
--- The conversion of a whole stream, a piece after the other. `r0`, `r1` and `r2` are what the
--- reader has left, and `w0`, `w1` and `w2` what the writer holds, at one point after another. They
--- are `None` if that is not known.
+-- The conversion of a whole stream, one piece after the other. `r0`, `r1` and `r2` are what the
+-- reader has left, and `w0`, `w1` and `w2` what the writer holds, at successive points. They are
+-- `None` if that is not known.
 use Rattle.std.proofs.Common.{◌≡◌, ℕ, ◌+◌, ◌-◌, ◌≤◌, Bool, true, false, List, [], ◌++◌, length, take, drop, refl, sym, ap, ◌∙◌, append_assoc, arith, length-drop, length-append, Some, None}
 use Rattle.std.specs.Prelude.{Option, IfSome}
 use Rattle.std.specs.List.{copy_within}
@@ -53,7 +53,7 @@ consumes-split : (r0 r1 : Option (List ℕ)) (taken piece : List ℕ) (read : �
     Consumes r0 r1 ((taken ++ take read piece) ++ drop read piece)
 consumes-split r0 r1 taken piece read h = rw (append_assoc taken (take read piece) (drop read piece), take-append-drop read piece) h
 
--- What was converted, and a part of a piece more.
+-- What was converted, and then a part of the piece that is ahead.
 piece-joined : Concat → (c : Conversion) (is_last : Bool) (taken piece output x : List ℕ) (read : ℕ) →
     Converts c is_last taken piece output → Converts c is_last (take read piece) (drop read piece) x →
     Converts c is_last (taken ++ take read piece) (drop read piece) (output ++ x)
@@ -61,7 +61,7 @@ piece-joined concat c is_last taken piece output x read before h =
     converts-append concat c is_last taken (take read piece) (drop read piece) output x
     (rw (take-append-drop read piece) before) h
 
--- What was taken so far, and what a piece takes more.
+-- What was taken so far, and then `read` bytes of the piece that is ahead.
 pub piece-so-far : Concat → (c : Conversion) (is_last : Bool) (r0 r1 w0 w1 w2 : Option (List ℕ)) (piece : List ℕ) (offset read : ℕ) →
     TakesPiece c piece is_last read w1 w2 → IsSoFar c is_last r0 r1 w0 w1 piece offset →
     IsSoFar c is_last r0 r1 w0 w2 (drop read piece) (offset + read)
@@ -103,7 +103,7 @@ writes-some c is_last (Some bytes) (Some more) w0 w1 taken ahead output rest end
   appended = appended;
 }
 
--- A run that stops between two pieces wrote all that was taken became.
+-- A run that stops between two pieces wrote all that the bytes taken so far became.
 pub some-so-far : (c : Conversion) (is_last : Bool) (r0 r1 w0 w1 : Option (List ℕ)) (ahead : List ℕ) (offset : ℕ) →
     IsSoFar c is_last r0 r1 w0 w1 ahead offset → IfSome r0 (λ bytes. WritesSome c bytes w0 w1)
 some-so-far c is_last r0 r1 w0 w1 ahead offset h =

@@ -34,7 +34,7 @@ text_of_part (Encoded text) = text
 text_of_part (InUtf8 text) = text
 text_of_part (Replaced byte) = 0xFFFD ∷ []
 
--- Whether each part is a text, or also a byte that is replaced.
+-- The part is a text, or, if `replaces` is true, a byte that is replaced.
 abbrev pub IsPart : Bool → Part → Type 0
 IsPart replaces (Encoded text) = IsText text
 IsPart replaces (InUtf8 text) = IsText text
@@ -45,7 +45,8 @@ abbrev pub AreParts : Bool → List Part → Type 0
 AreParts replaces [] = ⊤
 AreParts replaces (part ∷ parts) = IsPart replaces part × AreParts replaces parts
 
--- The bytes are such parts, joined, and the text is that of the parts.
+-- The bytes are those of some parts, joined, and the text is that of these parts. `replaces` says
+-- whether some of them may be replaced bytes.
 pub record IsMixed (replaces : Bool) (f : Flavor) (bytes text : List ℕ) : Type 0 where
   pub parts : List Part
   pub are_parts : AreParts replaces parts

@@ -1,4 +1,6 @@
--- What a conversion of a stream does to its reader and its writer.
+-- What a conversion of a stream does to its reader and its writer. `r0`, `r1` and `r2` are what the
+-- reader has left, and `w0`, `w1` and `w2` what the writer holds, at successive points. They are
+-- `None` if that is not known. `old` and `new` are the writer, or a buffer, before and after.
 use Rattle.std.specs.Prelude.{◌≡◌, ℕ, ◌+◌, ◌≤◌, Bool, true, false, List, ◌++◌, length, take, drop, Option, IfSome}
 use Rattle.std.specs.Io.KnownBytes.{Appends, Consumes, IsAtEnd}
 use Rattle.cesu8conv_run.specs.Conversion.{Converts, IsOutput, IsDamage, IsDamagedAhead}
@@ -37,8 +39,8 @@ abbrev pub StopsBy : Conversion → Fault → (input old new : Option (List ℕ)
 StopsBy c (Damage offset ahead) input old new = IfSome input (λ bytes. StopsAt c offset bytes old new)
 StopsBy c other input old new = IfSome input (λ bytes. WritesSome c bytes old new)
 
--- The stream so far. Of the input, so many bytes were taken and what they became was appended, and
--- these bytes are ahead. If they are the last ones, the input is at its end.
+-- The stream so far: `offset` bytes of the input were taken, what they became was appended, and the
+-- bytes `ahead` were read but not taken. If these are the last ones, the input is at its end.
 pub record IsSoFar (c : Conversion) (is_last : Bool) (r0 r1 w0 w1 : Option (List ℕ)) (ahead : List ℕ) (offset : ℕ) : Type 0 where
   pub taken : List ℕ
   pub output : List ℕ
@@ -48,8 +50,8 @@ pub record IsSoFar (c : Conversion) (is_last : Bool) (r0 r1 w0 w1 : Option (List
   pub converts : Converts c is_last taken ahead output
   pub appended : Appends w0 w1 output
 
--- Bytes were read after the unread ones of the window, up to this end, and none only at the end of
--- the input.
+-- Bytes were read into the window after its unread ones, up to `end`. If none was read, the input
+-- is at its end.
 pub record ReadsMore (unread end : ℕ) (r1 r2 : Option (List ℕ)) (old new : List ℕ) : Type 0 where
   pub more : unread ≤ end
   pub within : end ≤ length new
@@ -58,7 +60,7 @@ pub record ReadsMore (unread end : ℕ) (r1 r2 : Option (List ℕ)) (old new : L
   pub piece_is : take end new ≡ take unread old ++ got
   pub ends : end ≡ unread → IsAtEnd r2
 
--- So many bytes of a piece of the input were taken, and what they became was appended.
+-- The first `read` bytes of a piece of the input were taken, and what they became was appended.
 pub record TakesPiece (c : Conversion) (bytes : List ℕ) (is_last : Bool) (read : ℕ) (old new : Option (List ℕ)) : Type 0 where
   pub within : read ≤ length bytes
   pub output : List ℕ
@@ -72,8 +74,8 @@ pub record IsPiece (c : Conversion) (bytes : List ℕ) (is_last : Bool) (piece :
   pub all : piece.is_damaged ≡ false → is_last ≡ true → piece.read ≡ length bytes
   pub damage : piece.is_damaged ≡ true → IsDamagedAhead c is_last (drop piece.read bytes)
 
--- After a round, bytes of the window are ahead that were unread or are new. If they do not begin
--- with damage, there are none of them at the end of the input.
+-- After a round, the first `round.left` bytes of the window are ahead. At the end of the input,
+-- there are none, unless they begin with damage.
 pub record IsRound (c : Conversion) (r1 r2 w1 w2 : Option (List ℕ)) (unread window : List ℕ) (round : Round) : Type 0 where
   pub read_fits : round.read ≤ length window
   pub left_fits : round.left ≤ length window

@@ -1,10 +1,11 @@
 //! A conversion of a stream: any input, in constant memory. The stream is read into one buffer,
-//! converted into another a step at a time, and that is written. What was taken of the input and
-//! what was written belong together after each step, so they do at the end.
+//! converted into another a step at a time, and that is written. After each write, what was
+//! written is the conversion of what was taken of the input, and so it is at the end.
 //!
-//! Rattle requires that each loop ends, so these count to `u64::MAX`, which no run reaches. Of what
-//! follows them only the error in `write_whole` occurs, after a write that accepts no byte. An
-//! interrupted call would not be repeated, but the program has no signal handler to interrupt one.
+//! Rattle requires that each loop ends, so these count to `u64::MAX`, which no run reaches. Of the
+//! lines after the loops, only the error in `write_whole` is reached, if a write accepts no byte.
+//! An interrupted call would not be repeated, but the program has no signal handler to interrupt
+//! one.
 
 ghost use Rattle.std.specs.Prelude.{◌≡◌, ◌++◌, ◌<◌, ℕ, Option, List, false, length, take, OnOk, OnErr, IfOk, IfErr};
 ghost use Rattle.std.specs.Io.KnownBytes.{Appends, IsAtEnd};
@@ -18,7 +19,7 @@ use crate::watch::Watch;
 use simd_cesu8::laws;
 use std::io::{self, ErrorKind, Read, Write};
 
-/// The fewest bytes of a buffer: no character, replacement or pair has more.
+/// The fewest bytes that a buffer may have. The longest character, a surrogate pair, has six.
 const LEAST: usize = 8;
 
 /// What a round did: it read a piece of the input, and converted that.
@@ -43,8 +44,9 @@ pub struct Piece {
     pub is_damaged: bool,
 }
 
-/// Converts all that the reader has, and writes it to the writer. It allocates nothing: these two
-/// buffers are all that it takes. After `Damage` the bytes ahead are at the front of the window.
+/// Converts all that the reader has, and writes it to the writer. It allocates nothing: it reads
+/// into `window`, and converts from there into `room`. After `Damage`, the bytes from the damage on
+/// that were read are at the front of the window.
 pub fn convert<R: Read, W: Write, V: Watch>(
     conversion: Conversion,
     input: &mut R,
@@ -125,8 +127,8 @@ fn convert_more<R: Read, W: Write, V: Watch>(
     })
 }
 
-/// Reads more after the unread bytes of the window, and returns where the bytes end then. They end
-/// at the same place only at the end of the input.
+/// Reads more after the unread bytes of the window, and returns where the bytes then end. That is
+/// still `unread` only at the end of the input.
 fn read_more<R: Read>(input: &mut R, window: &mut [u8], unread: usize) -> io::Result<usize>
     requires { unread < length window.now }
     ensures { IfOk result (λ end. ReadsMore unread end (R.remaining input.old)

@@ -5,7 +5,8 @@ use std::io;
 /// Why a conversion did not reach the end of its input.
 #[derive(Drop)]
 pub enum Fault {
-    /// No character of the input begins at this offset. So many bytes from there on were read.
+    /// No character of the input begins at this offset. The second number says how many bytes from
+    /// there on were read.
     Damage(u64, usize),
     /// A read failed.
     Read(io::Error),

@@ -74,7 +74,7 @@ impl<'a> Inputs<'a> {
         self.lines
     }
 
-    /// The file that has an offset of the input, and where it begins.
+    /// The file to which this offset of the input belongs, and where that file begins.
     pub fn file_at(&self, offset: u64) -> (&'a str, Start) {
         let mut found = 0;
         let mut start = Start {
@@ -165,7 +165,7 @@ fn name_at<'a>(names: &'a [&'a str], index: usize) -> &'a str {
 }
 
 /// How many line ends the bytes have. All input is counted, so this tests 32 bytes at once. The sum
-/// is at most the length, and wraps nowhere.
+/// is at most the length, so it never wraps.
 pub fn line_ends(bytes: &[u8]) -> usize {
     let (blocks, rest) = bytes.as_chunks::<32>();
     let mut count = 0usize;

@@ -72,7 +72,8 @@ fn say_damage(
     eprintln!(rt; "cesu8conv: {name}:{line}: byte {at}: {bytes}: {text}")
 }
 
-/// Says what failed, with the system's message. A reader that went away is no news.
+/// Says what failed, with the system's message, and returns the status. It prints nothing for a
+/// broken pipe: the program that reads the output has ended.
 pub fn say(rt: &HostRuntime, name: &str, error: &io::Error) -> u8 {
     match error.kind() {
         ErrorKind::BrokenPipe => IO,

@@ -21,6 +21,6 @@ pub struct Options<'a> {
     pub is_quiet: bool,
     /// Whether replaced bytes make the status 1.
     pub fails_on_damage: bool,
-    /// Whether progress is shown in any case.
+    /// Whether progress is shown in any case, not only for large files at a terminal.
     pub shows_progress: bool,
 }

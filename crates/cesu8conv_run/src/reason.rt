@@ -13,7 +13,7 @@ pub struct Reason {
     pub text: &'static str,
 }
 
-/// Why the bytes, of which one at least is there, are damage to a conversion.
+/// Why the bytes, of which there is at least one, are damage to a conversion.
 pub fn reason_of(conversion: Conversion, bytes: &[u8]) -> Reason {
     match conversion {
         Conversion::Encode(_) => utf8_reason(bytes),
@@ -39,7 +39,7 @@ fn utf8_reason(bytes: &[u8]) -> Reason {
     cut_or(bytes, "not UTF-8")
 }
 
-/// Why bytes are not the encoding, with a word on UTF-8.
+/// Why bytes are not the encoding. If they are a character of UTF-8, this says so.
 fn decode_reason(flavor: FlavorWord, bytes: &[u8]) -> Reason {
     if is_four(bytes) {
         return Reason {
@@ -110,7 +110,7 @@ fn is_four(bytes: &[u8]) -> bool {
     }
 }
 
-/// Whether these few bytes are a beginning of a character, or of half of a pair, and no more.
+/// Whether the bytes are at most three, and only the beginning of a character or of half of a pair.
 fn is_cut(bytes: &[u8]) -> bool {
     match bytes {
         [_, _, _, _, ..] => false,

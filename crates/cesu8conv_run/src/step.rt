@@ -1,7 +1,7 @@
 //! One step of a conversion: from the unread bytes of the input to a part of the output, both in
-//! memory. A step converts the whole characters at the start of the bytes, by `cesu8_stream`. If it
-//! stops before a byte that begins none, the next step replaces that byte or, for the mixed
-//! commands, copies a character of UTF-8.
+//! memory. A step converts the whole characters at the start of the bytes, by `cesu8_stream`. If a
+//! byte begins none, the mixed commands first try to copy a character of UTF-8. Otherwise the lossy
+//! commands replace the byte, and the others stop.
 
 ghost use Rattle.std.specs.Prelude.{◌≡◌, ◌≤◌, length, IsTrue, IsUtf8};
 ghost use Rattle.simd_cesu8.specs.Text.{utf8};
@@ -20,7 +20,8 @@ use std::simd::u8x32;
 /// U+FFFD in UTF-8.
 const REPLACEMENT: [u8; 3] = [0xEF, 0xBF, 0xBD];
 
-/// How many bytes a mixed step searches for a character of UTF-8. It reads only these twice.
+/// How many bytes a mixed step searches for a byte that only UTF-8 has. Only these are read twice:
+/// by the search, and by `decode`.
 const WINDOW: usize = 4096;
 
 /// What a step did, and what it needs to go on.
@@ -74,7 +75,7 @@ fn decode_step(flavor: FlavorWord, bytes: &[u8], is_last: bool, room: &mut [u8])
     after(decode(flavor, bytes, room), is_last)
 }
 
-/// Replaces the next byte, if the step before stopped at it.
+/// Decodes, or replaces the first byte if it is damaged.
 fn lossy_step(flavor: FlavorWord, bytes: &[u8], is_last: bool, room: &mut [u8]) -> Step
     ensures { IsStep (Conversion.Lossy flavor) bytes.now is_last room.new result }
 {
@@ -98,7 +99,7 @@ fn mixed_step(flavor: FlavorWord, bytes: &[u8], is_last: bool, room: &mut [u8]) 
     pass_step(flavor, bytes, is_last, room)
 }
 
-/// Replaces the next byte, if the step before stopped at it.
+/// Takes a mixed step, or replaces the first byte if it is damaged.
 fn mixed_lossy_step(flavor: FlavorWord, bytes: &[u8], is_last: bool, room: &mut [u8]) -> Step
     ensures { IsStep (Conversion.MixedLossy flavor) bytes.now is_last room.new result }
 {
@@ -119,7 +120,8 @@ fn front_step(flavor: FlavorWord, bytes: &[u8], len: usize, is_last: bool, room:
     }
 }
 
-/// Copies the character of UTF-8 that begins the bytes, if only UTF-8 has it. Otherwise it decodes.
+/// Copies the character of UTF-8 that begins the bytes, if the encoding writes it in another way.
+/// Otherwise it decodes.
 fn pass_step(flavor: FlavorWord, bytes: &[u8], is_last: bool, room: &mut [u8]) -> Step
     ensures { IsStep (Conversion.Mixed flavor) bytes.now is_last room.new result }
 {
@@ -234,7 +236,8 @@ fn encoded_len(flavor: FlavorWord, bytes: &[u8]) -> usize
 {
     let most = bytes.len().min(WINDOW);
     let (blocks, rest) = bytes[..most].as_chunks::<32>();
-    // In CESU-8 no other byte than those from F0 on: FF is one of them.
+    // Bytes from F0 on are found in both encodings, and in MUTF-8 also 00. FF in place of 00 finds
+    // no more.
     let other = u8x32::splat(match flavor {
         FlavorWord::Cesu8 => 0xFF,
         FlavorWord::Mutf8 => 0,

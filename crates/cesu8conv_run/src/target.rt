@@ -31,8 +31,8 @@ struct Draft {
 }
 
 impl<'a> Target<'a> {
-    /// Opens the output. A regular file stays as it is until `finish`. Another one, such as a
-    /// device, is written as it is.
+    /// Opens the output. A regular file stays as it is until `finish`. Any other file, such as a
+    /// device, is written directly.
     pub fn open(rt: &HostRuntime, output: Option<&'a str>) -> io::Result<Target<'a>> {
         let Some(name) = output else {
             return Ok(Target {
@@ -59,8 +59,7 @@ impl<'a> Target<'a> {
         }
     }
 
-    /// Takes away what was written, and leaves the old file. It returns false if there was no
-    /// draft.
+    /// Removes the draft, and leaves the old file. It returns false if there was no draft.
     pub fn give_up(&self, rt: &HostRuntime) -> bool {
         match &self.draft {
             Some(draft) => {

@@ -1,4 +1,5 @@
-//! A reader and a writer that are slow or fail. They allocate nothing.
+//! A reader and a writer that are slow or fail. They allocate nothing. `.ci/shows.sh` copies this
+//! file, since the lines `shows:` of edits use it too.
 
 ghost use Rattle.std.specs.Prelude.{◌≡◌, IfOk};
 

@@ -1,4 +1,5 @@
--- The encoding of one scalar value as bytes, with its digits as variables.
+-- The encoding of one scalar value as bytes, with its digits as variables. A digit is the part of
+-- the value that one byte has (`Shapes`).
 use Rattle.std.proofs.lemmas.Bool.Decides.{nat_tests}
 use Rattle.std.proofs.Common.{◌≡◌, ℕ, ◌+◌, ◌<◌, [], ◌∷◌, refl, arith, append-nil}
 use Rattle.cesu8_text.specs.Utf16.{units_of}

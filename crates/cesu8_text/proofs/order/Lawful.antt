@@ -1,4 +1,5 @@
--- The laws that combine several lemmas.
+-- The laws of `specs/Laws.antt` that combine several lemmas. The others are proved in the
+-- modules of their subjects.
 use Rattle.std.proofs.Common.{◌∙◌, arith}
 use Rattle.std.specs.Str.{chars}
 use Rattle.cesu8_text.specs.Encoding.{encoding}

@@ -1,5 +1,5 @@
 -- If a format writes a text character by character and keeps the order of characters, texts compare
--- as their code units do. Both encodings are such formats.
+-- as their code units do. CESU-8 is such a format, and MUTF-8 is one for texts without U+0000.
 use Rattle.std.proofs.Common.{◌≡◌, ◌≢◌, ℕ, ◌<◌, ◌≤◌, ◌⊎◌, List, [], ◌∷◌, ◌++◌, ap, inl, arith}
 use Rattle.std.specs.List.{All, flat_map}
 use Rattle.std.proofs.lemmas.List.Elements.{All-head, All-tail}
@@ -41,7 +41,7 @@ same_units s t is_text other_is_text same =
     encoding_injective Cesu8 s t is_text other_is_text (ap (flat_map (form Cesu8)) same)
 
 -- Text is written character by character, and a character that precedes another in UTF-16 is
--- written as smaller bytes, whatever follows.
+-- written as smaller bytes, whatever follows. `Fits` is a condition on characters that this needs.
 pub record KeepsOrder (Fits : ℕ → Type 0) (write : List ℕ → List ℕ) : Type 0 where
   pub nil : write [] ≡ []
   pub cons : (c : ℕ) (text : List ℕ) → write (c ∷ text) ≡ write (c ∷ []) ++ write text

@@ -91,8 +91,7 @@ inside_marks f bytes c i (suc n) rest begins later inside =
     let here : IsMark f bytes i [] = Within none (0, c, (rest, begins), later, omega arith) in
     grind (arith, mark_from f bytes i [] here, inside_marks f bytes c (i + 1) n rest begins)
 
--- A character that begins the bytes has the mark of its first offset, and the rest of its stretch
--- none.
+-- If a character begins the bytes, the marks of its stretch, joined, are this character alone.
 marks_of_prefix : (f : Flavor) (bytes : List ℕ) (c n : ℕ) (rest : List ℕ) → BeginsWith f bytes c rest → suc n ≡ width f c →
     marks f bytes 0 (suc n) ≡ c ∷ []
 unfolding marks

@@ -1,4 +1,5 @@
--- The UTF-8 of one scalar value, with its digits as variables.
+-- The UTF-8 of one scalar value, with its digits as variables. A digit is the part of the value
+-- that one byte of its encoding has. In a surrogate pair, these are the four bytes that are not ED.
 use Rattle.std.proofs.lemmas.Bool.Decides.{nat_tests}
 use Rattle.std.proofs.Common.{◌≡◌, ℕ, ◌+◌, ◌-◌, ◌*◌, ◌/◌, ◌%◌, ◌<◌, ◌≤◌, ◌⊎◌, [], ◌∷◌, inl, inr, arith}
 use Rattle.std.proofs.lemmas.Bool.{cases_lt}

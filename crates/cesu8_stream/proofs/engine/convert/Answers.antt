@@ -1,4 +1,5 @@
--- The step at the start and the call on the rest are together one call (`continued`).
+-- `convert_window`, and then `convert_rest` on the bytes that it left, are together one call
+-- (`continued`).
 use Rattle.std.proofs.Common.{◌≤◌, ◌+◌, length, arith}
 use Rattle.std.proofs.lemmas.List.{take_rest}
 use Rattle.cesu8_stream.proofs.Joined.{written_fits, both_fit}

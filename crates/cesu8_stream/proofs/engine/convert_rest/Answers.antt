@@ -1,5 +1,5 @@
--- Two calls after one another are one call. The loop ends at a step that reads nothing, which
--- writes nothing.
+-- Two steps in a row are one (`joined`). The loop ends at a step that reads nothing, and so writes
+-- nothing (`nothing_moved`).
 use Rattle.std.proofs.Common.{◌≡◌, ◌<◌, ◌-◌, ℕ, [], ◌∷◌, ◌++◌, length, take, drop, length-drop, arith, ap, ◌∙◌, refl}
 use Rattle.std.proofs.lemmas.Grind.{common_steps}
 use Rattle.std.proofs.lemmas.List.{take_rest, take-append-drop}

@@ -1,5 +1,5 @@
--- A step is a strict call, and U+FFFD for the byte at which it stopped if that is damage. Steps
--- after one another are one step (`read_on`). In each answer `facts` are the laws of the encoding,
+-- A step is a strict call, and U+FFFD for the byte at which it stopped if that is damage. Two steps
+-- in a row are one (`read_on`). In each answer `facts` are the laws of the encoding,
 -- and `found` is what holds after the strict call of the round (`found_by`).
 use Rattle.std.proofs.Common.{◌≤◌, ◌+◌, length, sym, ◌∙◌, refl, arith}
 use Rattle.cesu8_stream.proofs.Joined.{written_fits, both_fit}

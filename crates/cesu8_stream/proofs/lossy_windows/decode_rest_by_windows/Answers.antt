@@ -1,4 +1,4 @@
--- Each window is a step, and steps after one another are one step (`read_on`).
+-- Each window is a step, and two steps in a row are one (`read_on`).
 use Rattle.std.proofs.Common.{refl, false, ◌≤◌, ◌-◌, ◌≡◌, length, length-drop, drop, arith}
 use Rattle.std.proofs.lemmas.List.{take_rest}
 use Rattle.cesu8_stream.proofs.Pieces.{to_end}

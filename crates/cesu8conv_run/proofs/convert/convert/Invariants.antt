@@ -1,4 +1,5 @@
--- The unread bytes in the window are ahead.
+-- What was taken so far was converted and written. The unread bytes at the front of the window come
+-- next in the input.
 use Rattle.std.proofs.Common.{◌≤◌, false, length, take}
 use Rattle.cesu8conv_run.specs.Stream.{IsSoFar}
 use Rattle.cesu8conv_run.proofs.convert.convert.Given as goal

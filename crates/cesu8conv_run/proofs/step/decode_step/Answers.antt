@@ -1,4 +1,4 @@
--- A call of `cesu8_stream` is a step of the conversion.
+-- A call of `cesu8_stream` is a step of the conversion. A character has at most 4 bytes in UTF-8.
 use Rattle.std.proofs.Common.{refl}
 use Rattle.simd_cesu8.specs.Text.{utf8}
 use Rattle.simd_cesu8.specs.Encoding.{encoding}

@@ -1,4 +1,4 @@
--- A call of `cesu8_stream` is a step of the conversion.
+-- A call of `cesu8_stream` is a step of the conversion. An encoded character has at most 6 bytes.
 use Rattle.std.proofs.Common.{refl}
 use Rattle.simd_cesu8.specs.Text.{utf8}
 use Rattle.simd_cesu8.specs.Encoding.{encoding}

@@ -1,4 +1,4 @@
--- `front_step` decodes the bytes before the next character that only UTF-8 has. That is a step of
+-- `front_step` decodes the bytes before the next byte that only UTF-8 has. That is a step of
 -- the mixed conversion, of input that is UTF-8 in some parts and the encoding in others. A
 -- character has at most 4 bytes in UTF-8.
 use Rattle.cesu8conv_run.proofs.Steps.{front-step}
