@@ -8,7 +8,8 @@ use Rattle.std.proofs.lemmas.Simd.{tops_compared, zip2_splat}
 use lib.Lanes.{sel_l, zip2, top, put_chunk}
 use Rattle.cesu8_bytes.proofs.lists.Lanes.{below}
 
--- If no lane has a number below the bound, the selection is the other vector.
+-- The lanes are numbered from `at` on. If none has a number below the bound, the selection is the
+-- other vector.
 none_before : (bound at : ℕ) (xs ys : List ℕ) → length xs ≡ length ys → bound ≤ at →
     sel_l (map (λ i. ltb i bound) (range_with_len at (length xs))) xs ys ≡ ys
 none_before bound at [] [] long le = refl
@@ -16,8 +17,8 @@ none_before bound at [] (y ∷ ys) long le = absurd (omega arith)
 none_before bound at (x ∷ xs) [] long le = absurd (omega arith)
 none_before bound at (x ∷ xs) (y ∷ ys) long le = grind (arith, nat_tests, common_steps, none_before bound (at + 1) xs ys)
 
--- Otherwise the lanes with numbers below the bound are those of the first vector, and the rest are
--- those of the other.
+-- If only the first `len` lanes have numbers below the bound, the selection has these lanes of the
+-- first vector, and the remaining ones of the other.
 chosen_before : (len at bound : ℕ) (xs ys : List ℕ) → length xs ≡ length ys → bound ≡ at + len →
     sel_l (map (λ i. ltb i bound) (range_with_len at (length xs))) xs ys ≡ take len xs ++ drop len ys
 chosen_before zero at bound xs ys long is = none_before bound at xs ys long (omega arith)
