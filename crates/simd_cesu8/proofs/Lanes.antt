@@ -29,7 +29,8 @@ chosen_before (suc len) at bound (x ∷ xs) (y ∷ ys) long is =
     grind (arith, nat_tests, common_steps, chosen_before len (at + 1) bound xs ys)
 
 -- Comparing the vector 0, 1, 2, .. with `len` in each lane selects the first `len` lanes of one
--- vector, and then those of the other.
+-- vector, and then those of the other. A lane of a comparison is FF or 00, and its top bit, 7,
+-- selects.
 pub first_lanes : (size len : ℕ) (xs ys : List ℕ) → length xs ≡ size → length ys ≡ size →
     sel_l (map (top 7) (zip2 below (range_with_len 0 size) (replicate size len))) xs ys ≡ take len xs ++ drop len ys
 first_lanes size len xs ys long_xs long_ys =

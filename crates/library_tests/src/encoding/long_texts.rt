@@ -120,9 +120,9 @@ fn encodes_and_decodes_the_pattern(rt: HostRuntime) {
     assert_pattern(&rt, rt.alloc(), Flavor::Mutf8, 819, (16_380, 20_475));
 }
 
-// The characters of each width, taken in turn. No two of the lists' lengths have a common divisor.
-// Nor does a length have one with the number of characters that a string takes from its list, which
-// is 819 for `ONE` and 1,638 for each other list. So no two strings are the same.
+// The characters of each width, taken in turn. Any two of the lists' lengths are coprime. Each is
+// also coprime to the number of characters that a string takes from the list, which is 819 for
+// `ONE` and 1,638 for each other list. So no two strings are the same.
 static ONE: [u32; 8] = [0x1, 0x9, 0xA, 0x20, 0x30, 0x41, 0x7A, 0x7F];
 
 static TWO: [u32; 11] = [
