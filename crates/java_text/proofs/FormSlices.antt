@@ -63,7 +63,7 @@ form_at_start text old mid count len room end end_is fits inside len_is mid_is c
 pub put_back : (old mid : List ℕ) (room : ℕ) → mid ≡ mid_of 2 room old → put_mid 2 room old mid ≡ old
 put_back old mid room same = ap (put_mid 2 room old) same ∙ put_same 2 room old
 
--- A call that leaves a form at the start of the buffer keeps its promise.
+-- A call that leaves a form at the start of the buffer keeps the promise `WritesForm`.
 pub form_written : (text old new : List ℕ) (len : ℕ) → HasForm text → length (java_form text) ≤ length old →
     StandsAtFront (java_form text) len old new → WritesForm text (Ok len) old new
 form_written text old new len has fits stands = record {
@@ -74,8 +74,8 @@ form_written text old new len has fits stands = record {
   unchanged = tt;
 }
 
--- If no form fits, a call that returns the reason and leaves the buffer unchanged keeps its
--- promise.
+-- If no form fits, a call that returns the reason and leaves the buffer unchanged keeps the promise
+-- `WritesForm`.
 pub form_misfits : (text old new : List ℕ) (len : ℕ) (fault : WriteSliceFault) → len ≡ mutf8_len text → (HasForm text → length old < length (java_form text)) →
     (65535 < len → fault ≡ TooLong len) → (len ≤ 65535 → fault ≡ TooShort (2 + len)) → new ≡ old →
     WritesForm text (Err fault) old new
@@ -87,7 +87,8 @@ form_misfits text old new len fault len_is misfits long short same = record {
   unchanged = same;
 }
 
--- The lossy reading of at most 65,535 bytes has a length that fits `usize`.
+-- The lossy reading of at most 65,535 bytes has at most three times as many (`LossyBound`), so its
+-- length fits `usize`.
 pub never_too_long : LossyBound → (bytes old new : List ℕ) (fault : LossySliceFault) → length bytes ≤ 65535 → fault ≡ lossy.TooLong →
     WritesLossyReading (λ text. text ≡ reading Mutf8 bytes) (Err fault) old new → ⊥
 never_too_long bound bytes old new fault small is writes =

@@ -1,4 +1,5 @@
--- The parts of bytes that begin with a form, and that they begin with at most one.
+-- The parts of bytes that begin with a form (a text's MUTF-8 after its length in two bytes), and
+-- that bytes begin with at most one form.
 use Rattle.std.proofs.Common.{◌≡◌, ℕ, ◌+◌, ◌-◌, ◌*◌, ◌/◌, ◌%◌, ◌<◌, ◌≤◌, List, [], ◌∷◌, ◌++◌, Result, Ok, Err, IfOk, OnOk, Bor, sym, ap, subst, ◌∙◌, inl, inr, length, get_or, take, drop, arith, lit<, length-append}
 use Rattle.std.proofs.Math.Seq.{take-append_seam, drop-append_seam, drop-append-add}
 use Rattle.std.proofs.lemmas.List.{take-append-drop, take_min, take_rest, length-take, length-take-le}
@@ -45,7 +46,7 @@ counted_after_count bytes some are =
     rw take_rest
     (ap (λ bs. take (length bs) after) are ∙ ap (λ n. take n after) (length-take (count_in bytes) after) ∙ take_min (count_in bytes) after)
 
--- Decoding that many bytes after the first two is decoding the counted bytes.
+-- A call that decodes these bytes (`counted_after_count`) decodes the counted bytes.
 pub counted_written : (bytes some : List ℕ) (result : Result ℕ DecodeSliceFault) (old new : List ℕ) → some ≡ counted bytes →
     WritesReading (IsStrictReading Mutf8 (take (length some) (take (length bytes - 2) (drop 2 bytes)))) result old new →
     WritesReading (IsStrictReading Mutf8 (counted bytes)) result old new
@@ -103,7 +104,7 @@ form_of_parts bytes (Ok parts) small first second whole = λ text read.
     (begins_with_form bytes text small whole (subst (λ bs. IsStrictReading Mutf8 bs text) first read))
 form_of_parts bytes (Err fault) small first second whole = tt
 
--- Bytes that a call splits so begin with no other form.
+-- If a call splits bytes as in `form_of_parts`, they begin with no other form.
 pub only_form_of_parts : (bytes : List ℕ) (result : Result (Bor (List ℕ) × Bor (List ℕ)) ReadFault) →
     ((bytes text rest : List ℕ) → BeginsWithForm bytes text rest → BeginsOnlyWithForm bytes text rest) →
     ((i : ℕ) → get_or bytes i 0 < 256) → IfOk result (λ parts. parts.0.now ≡ counted bytes) →

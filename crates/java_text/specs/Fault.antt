@@ -51,9 +51,10 @@ abbrev pub IfRefused : ReadFault → Type 0 → Type 0
 IfRefused Memory P = ⊤
 IfRefused other P = P
 
--- If the call returns such an error, the fact holds.
+-- If the call returns `Invalid`, the fact holds.
 abbrev pub OnInvalid : {T : Type 0} → Result T ReadFault → Type 0 → Type 0
 OnInvalid result P = IfErr result (λ fault. IfInvalid fault P)
 
+-- If the call returns an error of the input, the fact holds.
 abbrev pub OnRefused : {T : Type 0} → Result T ReadFault → Type 0 → Type 0
 OnRefused result P = IfErr result (λ fault. IfRefused fault P)

@@ -33,7 +33,7 @@ BeginsOnlyWithForm bytes text rest =
 abbrev pub NoFormBegins : List ℕ → Type 0
 NoFormBegins bytes = (text rest : List ℕ) → ¬ (BeginsWithForm bytes text rest)
 
--- The parts that the count says, even if no form begins the bytes: the count in the first two
+-- The parts that the count gives, even if no form begins the bytes: the count in the first two
 -- bytes, as many bytes after these, and the rest.
 abbrev pub count_in : List ℕ → ℕ
 count_in bytes = 0x100 * slice_index bytes 0 + slice_index bytes 1

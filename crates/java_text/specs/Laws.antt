@@ -66,7 +66,8 @@ RestIsRead = (bytes : List ℕ) (texts : List (List ℕ)) (rest : List ℕ) → 
     (all : List (List ℕ)) →
     AreReadInTurn bytes all ↔ ((more : List (List ℕ)) × (all ≡ texts ++ more) × AreReadInTurn rest more)
 
--- If no form begins the rest, they are read as these texts alone, and only if the rest is empty.
+-- If bytes begin with some forms, and no form begins the rest, the bytes are read as the texts of
+-- these forms alone, and only if the rest is empty.
 abbrev pub NoneFollows : Type 0
 NoneFollows = (bytes : List ℕ) (texts : List (List ℕ)) (rest : List ℕ) → BeginsWithForms bytes texts rest →
     NoFormBegins rest → (all : List (List ℕ)) → AreReadInTurn bytes all ↔ ((all ≡ texts) × (rest ≡ []))

@@ -31,8 +31,9 @@ abbrev pub IfTooShort : Result (ℕ × Bor (List ℕ)) ReadSliceFault → (ℕ �
 IfTooShort (Err (reading.TooShort needed)) P = P needed
 IfTooShort other P = ⊤
 
--- The text of the counted bytes is written to the buffer, and the call returns the bytes after
--- them. Otherwise bytes are missing, or the counted bytes have no text, or the buffer is too short.
+-- The text of the counted bytes (`IsReading`) is written to the buffer, and the call returns the
+-- bytes after them. Otherwise bytes are missing, or the counted bytes have no text, or the buffer
+-- is too short.
 pub record WritesCounted (bytes : List ℕ) (IsReading : List ℕ → Type 0) (result : Result (ℕ × Bor (List ℕ)) ReadSliceFault) (old new : List ℕ) : Type 0 where
   pub written : IfOk result (λ read. ReadingAtFront IsReading read.0 old new)
   pub rest : IfOk result (λ read. read.1.now ≡ rest_in bytes)

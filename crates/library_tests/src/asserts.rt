@@ -50,7 +50,7 @@ pub fn ascii_with(
     inserted(rt, alloc, input)
 }
 
-/// The string of a scalar value of the table. It is empty only if the row's bytes are not UTF-8.
+/// The string of a row of `BORDERS`. It is empty only if the row's bytes are not UTF-8.
 pub fn text_of(border: &Border) -> &'static str {
     str::from_utf8(border.utf8).unwrap_or("")
 }

@@ -1,6 +1,6 @@
 //! No call that builds or copies gives up while there is memory, whatever the length of its input.
-//! The contract of such a call lets it run out of memory at any time, so no proof refuses one that
-//! says so of a length of its own.
+//! The contract of such a call lets it run out of memory at any time. So no proof rejects a call
+//! that returns this error for some length although there is memory.
 
 use crate::asserts::assert_of;
 use java_text::{
@@ -21,12 +21,12 @@ use test_cases::slices::SliceCall;
 /// ASCII, to fill many bytes at once.
 const ASCII: &[u8] = &[b'a'; 4096];
 
-/// So many bytes of ASCII.
+/// This many bytes of ASCII.
 fn ascii(alloc: Global, len: usize) -> Result<Vec<u8>, AllocError> {
     filled(alloc, ASCII, len)
 }
 
-/// So many bytes: ASCII, and at the end these, if there is room for them.
+/// This many bytes: ASCII, and at the end `end`, if it fits.
 fn ending_with(alloc: Global, len: usize, end: &[u8]) -> Result<Vec<u8>, AllocError> {
     let Some(front) = len.checked_sub(end.len()) else {
         return ascii(alloc, len);
@@ -167,7 +167,7 @@ fn read_lossily(alloc: Global, bytes: &[u8]) -> Option<&'static str> {
     }
 }
 
-/// The end of texts in UTF-8 that are not the same in both encodings.
+/// The end, in UTF-8, of texts that both encodings change.
 const TEXT_END: &[u8] = b"\xF0\x9F\x92\x96";
 
 /// The end of the encodings of these texts.
@@ -176,8 +176,8 @@ const ENCODING_END: &[u8] = b"\xED\xA0\xBD\xED\xB2\x96";
 /// The end of damaged encodings.
 const DAMAGED_END: &[u8] = b"\xFF";
 
-/// Makes each call that encodes, with a text of so many bytes and this end. Returns the name of the
-/// first one that gives up.
+/// Makes each call that encodes, with a text of this many bytes and this end. Returns the name of
+/// the first one that gives up.
 fn encode_ending(alloc: Global, flavor: Flavor, len: usize, end: &[u8]) -> Option<&'static str> {
     match ending_with(alloc, len, end) {
         Ok(utf8) => match str::from_utf8(&utf8) {
@@ -188,7 +188,7 @@ fn encode_ending(alloc: Global, flavor: Flavor, len: usize, end: &[u8]) -> Optio
     }
 }
 
-/// Makes each call that decodes, with so many bytes and this end.
+/// Makes each call that decodes, with this many bytes and this end.
 fn decode_ending(alloc: Global, flavor: Flavor, len: usize, end: &[u8]) -> Option<&'static str> {
     match ending_with(alloc, len, end) {
         Ok(bytes) => decode_all(alloc, flavor, &bytes, end == DAMAGED_END),
@@ -196,7 +196,7 @@ fn decode_ending(alloc: Global, flavor: Flavor, len: usize, end: &[u8]) -> Optio
     }
 }
 
-/// Makes each call that writes or reads a Java string, with a text of so many bytes and this end.
+/// Makes each call that writes or reads a Java string, with a text of this length and this end.
 fn exchange_ending(alloc: Global, len: usize, end: &[u8]) -> Option<&'static str> {
     match ending_with(alloc, len, end) {
         Ok(utf8) => match str::from_utf8(&utf8) {
@@ -207,7 +207,7 @@ fn exchange_ending(alloc: Global, len: usize, end: &[u8]) -> Option<&'static str
     }
 }
 
-/// Makes each call that reads a Java string lossily, with so many bytes, the last one damaged.
+/// Makes each call that reads a Java string lossily, with this many bytes, the last one damaged.
 fn read_ending(alloc: Global, len: usize) -> Option<&'static str> {
     match ending_with(alloc, len, DAMAGED_END) {
         Ok(bytes) => read_lossily(alloc, &bytes),
@@ -215,7 +215,7 @@ fn read_ending(alloc: Global, len: usize) -> Option<&'static str> {
     }
 }
 
-/// The first call that gives up on inputs of so many bytes.
+/// The first call that gives up on inputs of this many bytes.
 fn first_of_codec(alloc: Global, flavor: Flavor, len: usize) -> Option<&'static str> {
     encode_ending(alloc, flavor, len, b"")
         .or(encode_ending(alloc, flavor, len, TEXT_END))
@@ -224,7 +224,7 @@ fn first_of_codec(alloc: Global, flavor: Flavor, len: usize) -> Option<&'static 
         .or(decode_ending(alloc, flavor, len, DAMAGED_END))
 }
 
-/// The first call of `java_text` that gives up on strings of so many bytes. They have no more than
+/// The first call of `java_text` that gives up on strings of this many bytes. They have at most
 /// 65,535 bytes of MUTF-8.
 fn first_of_java(alloc: Global, len: usize) -> Option<&'static str> {
     if len > 65_535 {
@@ -252,7 +252,7 @@ fn no_call_gives_up_on_few_bytes(rt: HostRuntime) {
     assert_done(&rt, rt.alloc(), 0..=300);
 }
 
-/// Up to 4,096 damaged bytes are decoded before memory is allocated.
+/// Lossy decoding of up to 4,096 bytes writes to an array first, and then allocates.
 #[test]
 fn no_call_gives_up_about_4096_bytes(rt: HostRuntime) {
     assert_done(&rt, rt.alloc(), 4_090..=4_110);

@@ -76,8 +76,8 @@ pub fn outcome_of_written_bytes(answer: Result<usize, TooShort>) -> Outcome {
     }
 }
 
-/// Copies a result to the start of the buffer if it fits, and returns the outcome. One that does not
-/// fit counts too: the timings pass an empty buffer, so that nothing is copied.
+/// Copies a result to the start of the buffer if it fits, and returns the outcome. A result that
+/// does not fit counts too: the timings pass an empty buffer, so that nothing is copied.
 fn outcome_of_copied(answer: &[u8], is_borrowed: bool, buf: &mut [u8]) -> Outcome {
     if answer.len() <= buf.len() {
         buf[..answer.len()].copy_from_slice(answer);

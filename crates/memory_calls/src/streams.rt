@@ -1,4 +1,4 @@
-//! The calls that convert a piece to a buffer of the caller's, and allocate nothing.
+//! The calls that convert a piece to the caller's buffer, and allocate nothing.
 
 use crate::prints::print_outcome;
 use cesu8_stream::{Progress, State, mutf8};
@@ -11,7 +11,7 @@ const ROOM: usize = 200_000;
 /// Makes the call of a name, with the bytes as the only piece, and prints why it stopped and what
 /// it wrote. Returns `None` for any other name.
 pub fn make(rt: &HostRuntime, name: &str, flavor: Flavor, bytes: &[u8]) -> Option<io::Result<()>> {
-    // Zeroing the buffer takes long, so other names do not come so far.
+    // Zeroing the buffer takes long, so a call with another name returns first.
     if !name.starts_with("stream_") {
         return None;
     }

@@ -8,7 +8,8 @@ use Rattle.std.proofs.lemmas.Simd.{tops_compared, zip2_splat}
 use lib.Lanes.{sel_l, zip2, top, put_chunk}
 use Rattle.cesu8_bytes.proofs.lists.Lanes.{below}
 
--- If no lane has a number below the bound, the selection is the other vector.
+-- The lanes are numbered from `at` on. If none has a number below the bound, the selection is the
+-- other vector.
 none_before : (bound at : ℕ) (xs ys : List ℕ) → length xs ≡ length ys → bound ≤ at →
     sel_l (map (λ i. ltb i bound) (range_with_len at (length xs))) xs ys ≡ ys
 none_before bound at [] [] long le = refl
@@ -16,8 +17,8 @@ none_before bound at [] (y ∷ ys) long le = absurd (omega arith)
 none_before bound at (x ∷ xs) [] long le = absurd (omega arith)
 none_before bound at (x ∷ xs) (y ∷ ys) long le = grind (arith, nat_tests, common_steps, none_before bound (at + 1) xs ys)
 
--- Otherwise the lanes with numbers below the bound are those of the first vector, and the rest are
--- those of the other.
+-- If only the first `len` lanes have numbers below the bound, the selection has these lanes of the
+-- first vector, and the remaining ones of the other.
 chosen_before : (len at bound : ℕ) (xs ys : List ℕ) → length xs ≡ length ys → bound ≡ at + len →
     sel_l (map (λ i. ltb i bound) (range_with_len at (length xs))) xs ys ≡ take len xs ++ drop len ys
 chosen_before zero at bound xs ys long is = none_before bound at xs ys long (omega arith)
@@ -28,7 +29,8 @@ chosen_before (suc len) at bound (x ∷ xs) (y ∷ ys) long is =
     grind (arith, nat_tests, common_steps, chosen_before len (at + 1) bound xs ys)
 
 -- Comparing the vector 0, 1, 2, .. with `len` in each lane selects the first `len` lanes of one
--- vector, and then those of the other.
+-- vector, and then those of the other. A lane of a comparison is FF or 00, and its top bit, 7,
+-- selects.
 pub first_lanes : (size len : ℕ) (xs ys : List ℕ) → length xs ≡ size → length ys ≡ size →
     sel_l (map (top 7) (zip2 below (range_with_len 0 size) (replicate size len))) xs ys ≡ take len xs ++ drop len ys
 first_lanes size len xs ys long_xs long_ys =

@@ -27,8 +27,8 @@ abbrev pub IfTooShort : Result ℕ DecodeSliceFault → (ℕ → Type 0) → Typ
 IfTooShort (Err (strict.TooShort fault)) P = P fault.needed
 IfTooShort other P = ⊤
 
--- The text of the bytes is written to the buffer, or the bytes have no text, or the buffer is too
--- short.
+-- The text of the bytes (`IsReading`) is written to the buffer, or the bytes have no text, or the
+-- buffer is too short.
 pub record WritesReading (IsReading : List ℕ → Type 0) (result : Result ℕ DecodeSliceFault) (old new : List ℕ) : Type 0 where
   pub written : IfOk result (λ len. ReadingAtFront IsReading len old new)
   -- The call succeeds exactly when the bytes have a text that fits.
@@ -50,8 +50,8 @@ abbrev pub IfLossyTooShort : Result ℕ LossySliceFault → (ℕ → Type 0) →
 IfLossyTooShort (Err (lossy.TooShort fault)) P = P fault.needed
 IfLossyTooShort other P = ⊤
 
--- The text of the bytes is written to the buffer, or its length does not fit `usize`, or the buffer
--- is too short.
+-- The text of the bytes (`IsReading`) is written to the buffer, or its length does not fit `usize`,
+-- or the buffer is too short.
 pub record WritesLossyReading (IsReading : List ℕ → Type 0) (result : Result ℕ LossySliceFault) (old new : List ℕ) : Type 0 where
   pub written : IfOk result (λ len. ReadingAtFront IsReading len old new)
   -- The call succeeds exactly when the text fits.

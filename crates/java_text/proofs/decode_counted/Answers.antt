@@ -1,4 +1,4 @@
--- The counted bytes are the first `length` bytes after the count, so decoding these decodes them.
+-- The function decodes the first `part.len()` bytes after the count, which are the counted bytes.
 use Rattle.std.proofs.Common.{sym, subst}
 use Rattle.simd_cesu8.specs.Encoding.{Mutf8}
 use Rattle.simd_cesu8.specs.Reading.{IsStrictReading}

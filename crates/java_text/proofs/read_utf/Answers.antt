@@ -11,7 +11,8 @@ use Rattle.java_text.specs.Form.{counted}
 use Rattle.java_text.proofs.Forms.{counted_after_count, none_begins_rejected, none_begins_truncated}
 use Rattle.java_text.proofs.read_utf.Goals as goal
 
--- This crate returns `Invalid` exactly when the decoder does, so what holds then holds here too.
+-- This crate returns `Invalid` exactly when the decoder does, so what the decoder promises for
+-- `Invalid` holds here too.
 invalid_as : (fault : DecodeFault) (bytes : List ℕ) → decoding.IfInvalid fault (HasNoStrictReading Mutf8 (counted bytes)) →
     IfInvalid (read_fault_of fault) (HasNoStrictReading Mutf8 (counted bytes))
 invalid_as (Invalid error) bytes invalid = invalid

@@ -4,7 +4,7 @@ use Rattle.std.proofs.Common.{length, ap, arith}
 use Rattle.java_text.proofs.FormSlices.{never_too_long, counted_bound}
 use Rattle.java_text.proofs.read_utf_lossy_to_slice.Goals as goal
 
--- There are too small counted bytes for a text whose length does not fit `usize`.
+-- There are too few counted bytes for a text whose length does not fit `usize`.
 pub unreachable-requires : goal.unreachable-requires
 unreachable-requires c =
     let small = counted_bound c.args.bytes.now (λ i. omega (arith, c.type_inv.bytes i)) in

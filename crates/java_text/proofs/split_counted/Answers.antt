@@ -14,6 +14,6 @@ returns-clause-only c =
     only_form_of_parts c.args.bytes.now c.ok_or.result c.one_form.ensures (λ i. omega (arith, c.type_inv.bytes i))
     (grind (arith, common_steps)) (grind (arith, common_steps)) (grind (arith, common_steps))
 
--- Input of fewer than two bytes is rejected.
+-- Input of fewer than two bytes is rejected, and this clause is about success.
 pub returns-in_default-clause-whole : goal.returns-in_default-clause-whole
 returns-in_default-clause-whole c = tt

@@ -1,7 +1,7 @@
 -- The three results: the buffer has no space for the count, the form is written, or the MUTF-8 does
 -- not fit after the count. In the last case `encode_to_slice` left the buffer unchanged. It gets at
--- most 65,535 bytes of it (`end`), so the error is `TooLong` if the MUTF-8 is longer than that, and
--- `TooShort` otherwise.
+-- most 65,535 bytes of the buffer (`end`), so the error is `TooLong` if the MUTF-8 is longer than
+-- that, and `TooShort` otherwise.
 use Rattle.std.proofs.Common.{◌∙◌, ◌-◌, ◌≤◌, length, arith, refl}
 use Rattle.std.specs.Str.{chars}
 use Rattle.std.proofs.lemmas.Bool.{false≢true}

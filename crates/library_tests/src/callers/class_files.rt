@@ -7,6 +7,7 @@ use std::alloc::Global;
 use uses::{ConstantFault, read_utf8_constant};
 
 /// The bytes of a constant pool from a text constant on, its text, and how many bytes follow it.
+/// Tag 1 begins a text constant. Tag 7 begins a class constant, which has two more bytes.
 type Constant = (&'static [u8], &'static str, usize);
 
 static CONSTANTS: [Constant; 4] = [

@@ -14,12 +14,12 @@ fn hands_out(entry: &Entry, want: &str) -> bool {
     name == want.as_bytes() && rest.iter().all(|byte| *byte == 0xEE)
 }
 
-/// How many bytes a name needs that an entry rejects.
+/// How many bytes a name needs, if an entry rejects it.
 fn rejected(entry: &mut Entry, name: &str) -> Option<usize> {
     Some(entry.set_name(name).err()?.needed())
 }
 
-/// How many bytes a name takes for which a buffer is too short.
+/// How many bytes the name of an entry needs, if a buffer of 20 bytes is too short for it.
 fn too_short(entry: &Entry) -> Option<usize> {
     Some(entry.name(&mut [0; 20]).err()?.needed())
 }
@@ -28,10 +28,10 @@ fn too_short(entry: &Entry) -> Option<usize> {
 fn keeps_names_in_entries(rt: HostRuntime) {
     let mut entry = Entry::new(7);
     assert!(rt; hands_out(&entry, ""));
-    // Five surrogate pairs and U+0000 take 32 bytes.
+    // Five surrogate pairs and U+0000 take 32 bytes of MUTF-8, the most that an entry can hold.
     let long = "\u{1F496}\u{1F496}\u{1F496}\u{1F496}\u{1F496}\0";
     assert!(rt; rejected(&mut entry, long) == None && hands_out(&entry, long));
-    // A name that is too long leaves the entry as it was, as does a buffer that is too short.
+    // After a name that is too long, and after a buffer that is too short, the entry is unchanged.
     let longer = "\u{1F496}\u{1F496}\u{1F496}\u{1F496}\u{1F496}\0a";
     assert!(rt; rejected(&mut entry, longer) == Some(33));
     assert!(rt; too_short(&entry) == Some(21) && hands_out(&entry, long));

@@ -11,7 +11,7 @@ static LOGS: [Log; 5] = [
     (b"", "", false),
     (b"one\ntwo\n", "one\ntwo\n", false),
     (b"\xED\xA0\xBD\xED\xB2\x96\n", "\u{1F496}\n", false),
-    // What replaced a damaged byte before is now a character, and no damage.
+    // U+FFFD in the input, from an earlier repair, is a character and no damage.
     (b"\xEF\xBF\xBD\n", "\u{FFFD}\n", false),
     (
         b"one\n\xED\xA0\xBDtwo\n",

@@ -5,8 +5,8 @@ use cesu8_stream::State;
 use std::alloc::Global;
 use uses::append_piece;
 
-/// Whether the whole characters of the first bytes are read, and the others wait only if they are
-/// part of a character.
+/// Whether the call reads the first piece without an error, and leaves bytes exactly when it
+/// reports that they are a part of a character.
 fn begins(bytes: &mut Vec<u8>, text: &mut Vec<u8>) -> bool {
     match append_piece(bytes, text) {
         Ok(State::InputEmpty) => bytes.is_empty(),
@@ -22,7 +22,7 @@ fn ends(bytes: &mut Vec<u8>, text: &mut Vec<u8>, want: &str) -> bool {
         && text.as_slice() == want.as_bytes()
 }
 
-/// Whether CESU-8 is read that comes in two pieces, cut at a place.
+/// Whether CESU-8 that comes in two pieces, cut at an offset, is read as this text.
 fn is_read_in_two(alloc: Global, input: &[u8], place: usize, want: &str) -> bool {
     let (first, second) = input.split_at(place.min(input.len()));
     let mut text = Vec::new(alloc);
@@ -44,14 +44,14 @@ fn reads_pieces(rt: HostRuntime) {
     }
 }
 
-/// Whether damage stops the reading, and stays with what comes after it.
+/// Whether the call stops at damage, and leaves it and the bytes after it.
 fn stops(bytes: &mut Vec<u8>, text: &mut Vec<u8>, rest: &[u8]) -> bool {
     append_piece(bytes, text) == Ok(State::Malformed)
         && text.as_slice() == b"id=".as_slice()
         && bytes.as_slice() == rest
 }
 
-/// Whether damage stays, and what comes after it.
+/// Whether damage is left, and also a byte that is appended to it.
 fn keeps_damage(alloc: Global) -> bool {
     let mut text = Vec::new(alloc);
     let Ok(mut bytes) = Vec::from_slice(alloc, b"id=\xFF") else {

@@ -4,8 +4,8 @@ use std::alloc::{AllocError, Global};
 use std::collections::BTreeMap;
 use uses::{Store, get_value, put_value};
 
-/// Texts in the order of Java's `compareTo`: the code units of the last but two begin with D800 and
-/// DBFF, below E000 and FFFF.
+/// Texts in the order of Java's `compareTo`: the first code units of U+10000 and U+10FFFF are D800
+/// and DBFF, which are less than E000 and FFFF.
 static ASCENDING: [&str; 9] = [
     "",
     "\0",

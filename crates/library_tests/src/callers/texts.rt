@@ -22,7 +22,7 @@ fn appends_all_texts(rt: HostRuntime) {
     let want = b"id=\xED\xA0\xBD\xED\xB2\x96\x00\xE2\x82\xAC";
     let texts = ["id", "=", "", "\u{1F496}\0"];
     assert!(rt; is_appended(&texts, &mut buf, &want[..10]));
-    // No clause says it: the capacity is exact.
+    // No clause says that the capacity is exact.
     assert!(rt; buf.capacity() == 10);
     assert!(rt; is_appended(&[], &mut buf, &want[..10]));
     assert!(rt; is_appended(&["\u{20AC}"], &mut buf, want));
@@ -81,7 +81,7 @@ fn makes_keys(rt: HostRuntime) {
     assert!(rt; is_bytes(key, b"a\xC0\x80\xED\xA0\xBD\xED\xB2\x96"));
 }
 
-/// Whether each call that returns a fact of a text by other calls returns that it holds.
+/// Whether each function of `uses` that compares the results of two calls returns true.
 fn is_told(alloc: Global, text: &str) -> bool {
     compares_as_keys(alloc, text, "\u{FFFF}") == Ok(true)
         && decodes_to_same(alloc, text) == Ok(true)

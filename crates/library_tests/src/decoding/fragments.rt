@@ -14,13 +14,13 @@ fn after(number: u64) -> u64 {
     number ^ (number << 17)
 }
 
-/// The bytes of a row of the table, which is repeated.
+/// The bytes of the row with this number, if `ROWS` is repeated.
 fn row_at(place: usize) -> &'static [u8] {
     ROWS[place % ROWS.len()].0
 }
 
-/// A random sequence of `pieces` pieces: one of `one_of` is a row of the table, and the others are
-/// characters.
+/// A random sequence of `pieces` pieces: about one in `one_of` is a row of `ROWS`, and the others
+/// are characters.
 fn sequence(alloc: Global, seed: u64, pieces: u64, one_of: u64) -> Result<Vec<u8>, AllocError> {
     let mut bytes = Vec::new(alloc);
     // The sequence starts from an odd number: after 0, `after` would return only 0.

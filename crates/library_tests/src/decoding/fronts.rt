@@ -21,7 +21,8 @@ fn assert_front(rt: &impl Abort, alloc: Global, bytes: &[u8], len: usize) {
     assert_of(rt, is_cesu8 && is_mutf8, &(is_cesu8, is_mutf8, len, bytes));
 }
 
-/// Asserts what is decoded of letters that end, or go on, with another byte at one offset.
+/// Asserts what is decoded of letters with another byte at one offset, both with and without
+/// letters after it.
 fn assert_fronts(rt: &impl Abort, alloc: Global, place: usize, byte: u8) {
     let mut bytes = [b'a'; 200];
     if let Some(other) = bytes.get_mut(place) {
@@ -35,7 +36,7 @@ fn assert_fronts(rt: &impl Abort, alloc: Global, place: usize, byte: u8) {
 }
 
 /// One byte among letters is the last of the first `len` bytes, the one before that, or the first
-/// byte after them.
+/// byte after them. Prefixes of more than 64 bytes do not take the fast path.
 #[test]
 fn reads_fronts_of_each_length(rt: HostRuntime) {
     for place in 0..130 {

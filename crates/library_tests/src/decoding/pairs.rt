@@ -17,7 +17,7 @@ use test_cases::plain::read;
 /// written.
 type Counts = (u32, u32, usize);
 
-/// The counts with one more outcome, for input with so many ill-formed bytes.
+/// The counts with one more outcome, for input with this many ill-formed bytes.
 fn add((read_inputs, borrowed, marks): Counts, outcome: Outcome<'_>, damaged: usize) -> Counts {
     match outcome {
         Outcome::Borrowed(_) => (read_inputs.wrapping_add(1), borrowed.wrapping_add(1), marks),

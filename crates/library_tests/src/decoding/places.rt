@@ -8,8 +8,8 @@ use std::ops::Range;
 use std::process::Abort;
 use test_cases::fills::{FILLS, Input};
 
-/// A surrogate pair, one that is cut off, U+0000 in both forms, UTF-8 of four bytes, lead bytes,
-/// and bytes that begin no character.
+/// A surrogate pair, one that is cut off, U+0000 in both forms, UTF-8 of four bytes, U+007F, lead
+/// bytes, and bytes that begin no character.
 static PIECES: [&[u8]; 11] = [
     b"\xED\xA0\xBD\xED\xB2\x96",
     b"\xED\xA0\xBD\xED\xB2",
@@ -68,7 +68,7 @@ fn reads_pieces_about_blocks(rt: HostRuntime) {
     assert_pieces(&rt, rt.alloc(), 127..129);
 }
 
-/// Each piece in a fill, near the ends of windows, the first of which is shorter.
+/// Each piece in a fill, near multiples of 64 bytes, at which blocks end.
 fn assert_about_windows(rt: &impl Abort, alloc: Global, fill: &[u8]) {
     for end in [256usize, 1_024, 1_088, 1_280, 2_048] {
         let places = end.saturating_sub(6)..end.saturating_add(2);

@@ -47,7 +47,7 @@ pub static ROWS: [(&[u8], usize, &str, usize); 37] = [
     (b"\xED\xA0\xBD\xED\xA0\xBD\xED\xB2\x96", 3, "\u{1F496}", 0),
     (b"\xED\xA0\xBDa\xED\xA0\xBD", 3, "a", 3),
     (b"\xED\xA0\xBDA\xED\xB2\x96", 3, "A", 3),
-    // The pair ED A0 BD ED B2 96 with one byte changed.
+    // The pair ED A0 BD ED B2 96 with one byte changed or left out.
     (b"\xEC\xA0\xBD\xED\xB2\x96", 0, "\u{C83D}", 3),
     (b"\xED\x9F\xBD\xED\xB2\x96", 0, "\u{D7FD}", 3),
     (b"\xED\xB0\xBD\xED\xB2\x96", 6, "", 0),

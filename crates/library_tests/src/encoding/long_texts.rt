@@ -15,7 +15,7 @@ use test_cases::pattern::{PATTERN, encoded_pattern};
 use test_cases::plain::encoded;
 
 /// The test's ASCII has 91 different bytes, so that a lost, doubled or moved byte is seen: no loop
-/// advances by a divisor of 91.
+/// has a fixed step that is a multiple of 91 bytes.
 const ASCII: &[u8] =
     b"!#$%&'()*+,-./0123456789:;<=>?@ABCDEFGHIJKLMNOPQRSTUVWXYZ[]^_`abcdefghijklmnopqrstuvwxyz{|}";
 
@@ -120,9 +120,9 @@ fn encodes_and_decodes_the_pattern(rt: HostRuntime) {
     assert_pattern(&rt, rt.alloc(), Flavor::Mutf8, 819, (16_380, 20_475));
 }
 
-// The characters of each width, taken in turn. The lists' lengths have no divisor in common with
-// one another. Nor have they one with the number of characters that a string takes, which is 819
-// from `ONE` and 1,638 from each other list. So no two strings are the same.
+// The characters of each width, taken in turn. Any two of the lists' lengths are coprime. Each is
+// also coprime to the number of characters that a string takes from the list, which is 819 for
+// `ONE` and 1,638 for each other list. So no two strings are the same.
 static ONE: [u32; 8] = [0x1, 0x9, 0xA, 0x20, 0x30, 0x41, 0x7A, 0x7F];
 
 static TWO: [u32; 11] = [
@@ -139,7 +139,7 @@ static FOUR: [u32; 19] = [
     0x30000, 0x3FFFF, 0x40000, 0x7FFFF, 0x80000, 0xE0001, 0xFFFFF, 0x100000, 0x10FFFF,
 ];
 
-/// The number of characters of a string: 819 groups of eight.
+/// The number of characters of a string: 819 groups of eight, which have 16,380 bytes of UTF-8.
 const CHARACTERS: u32 = 8 * 819;
 
 /// The scalar value with this number, if those of the list are taken in turn.

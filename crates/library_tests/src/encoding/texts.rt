@@ -90,6 +90,7 @@ fn makes_few_requests(rt: HostRuntime) {
     let mut buf = Vec::new(rt.alloc());
     let mut all: u32 = 0;
     for _call in 0..1_000 {
+        // A call that runs out of memory counts as 21, more than the test allows.
         all = all.saturating_add(requests(&mut buf).unwrap_or(21));
     }
     assert_of(&rt, buf.len() == 7_000 && all <= 20, &(buf.len(), all));

@@ -1,4 +1,4 @@
-//! What a failed allocation becomes in a function that returns an error of this crate.
+//! What a failed allocation becomes in a function that returns an error of `java_text`.
 
 use crate::asserts::assert_of;
 use java_text::{ReadFault, WriteFault};

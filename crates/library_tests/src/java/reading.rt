@@ -1,5 +1,5 @@
-//! The calls that return a text, and the calls that write it to a buffer, of each length up to more
-//! than is needed.
+//! The calls that read a Java string. Some return its text. The others write it to a buffer, which
+//! has each length up to more than is needed.
 
 use crate::asserts::assert_of;
 use crate::java::reading::Due::{Borrowed, Invalid, Owned, Truncated};

@@ -1,5 +1,5 @@
-//! The call that appends to a vector, and the call that writes to a buffer, of each length near the
-//! needed one.
+//! The calls that write a Java string: one appends it to a vector, and the other writes it to a
+//! buffer, which has each length near the needed one.
 
 use crate::asserts::assert_of;
 use java_text::{WriteFault, WriteSliceFault, read_utf, write_utf, write_utf_to_slice};
@@ -97,8 +97,8 @@ static COUNTS: [(usize, &[u8]); 9] = [
     (65536, b""),
 ];
 
-/// The bytes of a character of `width` bytes of MUTF-8, as many times as it fits in `length` bytes,
-/// and then `a`. The bytes of the count are at the front.
+/// The bytes of the count, those of a character of `width` bytes of MUTF-8 as many times as it fits
+/// in `length` bytes, and `a` for each byte that is left.
 fn counted(
     rt: &impl Abort,
     alloc: Global,

@@ -63,8 +63,7 @@ fn assert_cuts(rt: &impl Abort, call: Call, pair: &Pair) {
     }
 }
 
-/// What a call must return that writes to a buffer of this size: it writes the whole characters
-/// that fit.
+/// What a call must return if its buffer has this size: it writes the whole characters that fit.
 fn fitted(pair: &Pair, size: usize) -> Progress {
     let (read, written, state) = if size < pair.written {
         (0, 0, State::OutputFull)

@@ -8,13 +8,14 @@ use crate::stream::lossy::is_read;
 use std::alloc::{AllocError, Global};
 use std::process::Abort;
 
-/// The buffer of a call. A window has a third of its bytes, and then at least five fewer.
+/// The length of a call's buffer. A window is at least five bytes shorter than a third of it, so it
+/// has at most 95 bytes.
 const ROOM: usize = 300;
 
 /// How many letters come first: the end of the first window is before, in or after what follows.
 const FRONTS: std::ops::Range<usize> = 84..101;
 
-/// Returns a damaged byte, so many letters, the bytes and as many letters again.
+/// Returns a damaged byte, `count` letters, the bytes and as many letters again.
 fn surround(
     alloc: Global,
     damage: &[u8],

@@ -1,4 +1,4 @@
--- The encoding of the empty string is empty.
+-- The encoding of the empty string is empty, and appending nothing succeeds.
 use Rattle.std.proofs.Common.{◌∙◌}
 use Rattle.simd_cesu8.specs.Encoding.{Cesu8}
 use Rattle.cesu8_text.proofs.encoding.Encodings.{encoding_of_empty}

@@ -1,4 +1,5 @@
--- Forms in a row are read as their texts, and only so, since bytes begin with one form at most.
+-- Consecutive forms are read as their texts and as no others, since bytes begin with at most one
+-- form.
 use Rattle.java_text.proofs.Lawful.{sequence_law}
 use Rattle.java_text.proofs.laws.sequence.Goals as goal
 

@@ -16,7 +16,7 @@ use Rattle.cesu8_decode.specs.Modes.{Keeps, Reads}
 use Rattle.cesu8_decode.proofs.chunks.ModeTexts.{known_texts}
 use Rattle.simd_cesu8.proofs.calls.decode_as.Goals as goal
 
--- What follows from the fact of an error `Invalid` is such a fact too.
+-- If an error `Invalid` means that P holds, and Q follows from P, then it means that Q holds.
 IfInvalid-weaker : {P Q : Type 0} (fault : DecodeFault) → (P → Q) → IfInvalid fault P → IfInvalid fault Q
 IfInvalid-weaker (Invalid error) follows invalid = follows invalid
 IfInvalid-weaker (Memory error) follows memory = memory

@@ -1,5 +1,6 @@
--- A string that decodes the encoding of another one has its characters (`encoding_injective`), and
--- then its bytes. Bytes that have a strict reading are its encoding, by definition.
+-- A string that is decoded from the encoding of another string has that string's characters
+-- (`encoding_injective`), and so its bytes. Bytes with a strict reading are the encoding of that
+-- reading, by definition.
 use Rattle.cesu8_text.proofs.order.Lawful.{decoded_back_law, not_refused_law, encoded_back_law}
 use Rattle.simd_cesu8.proofs.laws.inverse.Goals as goal
 
