@@ -6,7 +6,7 @@
 //! whole, and the next row overwrites what lies after its end.
 //!
 //! A block inside a string can be copied if no byte of it changes, nor one of the two before it. If
-//! only null characters change, no neighbour matters, and computing the lanes takes fewer steps.
+//! only null characters change, no neighbor matters, and computing the lanes takes fewer steps.
 
 ghost use Rattle.std.specs.Prelude.{◌≡◌, List, Bool, ◌+◌, ◌*◌, ◌-◌, ◌<◌, ◌≤◌, ◌++◌, length, take, count_ones, IsTrue};
 ghost use Rattle.std.specs.Simd.Lanes.{chunk, mask_l};

@@ -1,7 +1,7 @@
 //! Encodes a string block by block, to a slice that is long enough.
 //!
 //! A block is read together with the bytes around it, since what is written for a byte depends on
-//! its neighbours. At both ends of the string, an array of zeros supplies the missing neighbours.
+//! its neighbors. At both ends of the string, an array of zeros supplies the missing neighbors.
 
 ghost use Rattle.std.specs.Prelude.{◌+◌, ◌*◌, ◌<◌, ◌≤◌, length};
 ghost use Rattle.std.specs.Str.{chars};

@@ -1,4 +1,4 @@
--- What is written for each byte of UTF-8, from the byte and its neighbours, is together the
+-- What is written for each byte of UTF-8, from the byte and its neighbors, is together the
 -- encoding.
 use Rattle.std.proofs.lemmas.Bool.Decides.{nat_tests}
 use Rattle.std.proofs.lemmas.Grind.{common_steps}
