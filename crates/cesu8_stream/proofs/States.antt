@@ -19,7 +19,7 @@ empty_may_begin from rest empty never =
       bytes_are = rw empty (sym (append-nil (from (0x41 ∷ []))));
     })
 
--- If a character begins the rest, one can.
+-- If no character can begin the rest, none begins it.
 never_none : (from : List ℕ → List ℕ) (rest : List ℕ) → NeverBegins from rest → BeginsNone from rest
 never_none from rest never c b = never [] c (subst (λ bs. Begins from bs c) (sym (append-nil rest)) b)
 
