@@ -78,8 +78,8 @@ pub record IsWindow (f : Flavor) (bytes : List ℕ) (at : ℕ) (window : Window)
   -- The window ends at a character boundary.
   pub boundary : is_boundary_at f (window_of bytes) (at + window.len) ≡ true
 
--- A window of at most `width` bytes begins at offset `at`, which is a character boundary, and as
--- many bytes can be loaded after it.
+-- A window of at most `width` bytes begins at offset `at`, which is a character boundary, and
+-- `width` bytes can be loaded after it.
 pub record HoldWindow (f : Flavor) (bytes : List ℕ) (at width : ℕ) (window : Window) : Type 0 where
   pub is_window : IsWindow f bytes at window
   pub boundary : is_boundary_at f (window_of bytes) at ≡ true

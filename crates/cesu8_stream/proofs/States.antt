@@ -1,5 +1,6 @@
--- The state of what is left. Exactly one of four facts is true of it: it is empty, a character
--- begins it, it is a part of a character, or no character can begin it.
+-- The state of what is left, for `state_of` of src/engine.rt. Exactly one of four facts is true of
+-- it: it is empty, a character begins it, it is a part of a character, or no character can begin
+-- it.
 use Rattle.std.proofs.Common.{◌≡◌, ℕ, ◌<◌, ◌≤◌, List, [], ◌∷◌, refl, sym, subst, inl, arith, length, take, drop, append-nil}
 use Rattle.std.proofs.lemmas.Grind.{common_steps}
 use Rattle.cesu8_stream.specs.Written.{Begins, BeginsNone, NeverBegins, IsPartial}

@@ -114,7 +114,8 @@ fn put_by_strategy<F: Flavor>(bytes: &[u8], buf: &mut [u8]) -> Result<usize, Wri
 {
     match strategy_of(bytes) {
         Strategy::Short => put_rest::<F>(bytes, buf),
-        // Input that ends within a character is rejected before all of it is decoded.
+        // Input that ends within a character, except after the first half of a surrogate pair, is
+        // rejected before all of it is decoded.
         _ if may_be_crossed::<Unchanged>(bytes, bytes.len()) => Err(WriteError::NoText),
         Strategy::SmallArray => put_by_array::<F, StrictReading, SMALL_STRICT>(bytes, buf),
         Strategy::LargeArray => put_by_array::<F, StrictReading, LARGE_STRICT>(bytes, buf),
