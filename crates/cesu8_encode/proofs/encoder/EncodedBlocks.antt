@@ -1,5 +1,6 @@
--- The encoder's vectors have, for each offset of a block, what the definitions by offsets say. A
--- block of 32 bytes is read with two bytes before it and one after it, which are 35.
+-- The vectors of `encode_block` (src/blocks.rt) have, for each offset of a block, what the
+-- definitions by offsets say. A block of 32 bytes is read with two bytes before it and one after
+-- it, which are 35.
 use Rattle.std.proofs.Common.{◌≡◌, ℕ, ◌+◌, ◌%◌, ◌^◌, ◌≤◌, ◌∙◌, List, map, length, get_or, replicate, arith, w8, Fits}
 use Rattle.std.specs.List.{range_with_len}
 use Rattle.std.proofs.lemmas.List.FromFn.{length-range_with_len}
