@@ -1,5 +1,5 @@
--- A part of a character is completed by the bytes of a fixed one: U+10000 (`pair_bytes`), or U+0000
--- of MUTF-8 (`null_bytes`). So `may_begin` of src/completion.rt tests only these two.
+-- A part of an encoded character is completed by the bytes of a fixed one: U+10000 (`pair_bytes`),
+-- or U+0000 of MUTF-8 (`null_bytes`). So `may_begin` of src/completion.rt tests only these two.
 use Rattle.std.proofs.Common.{◌≡◌, ℕ, ◌+◌, ◌*◌, ◌<◌, ◌≤◌, ◌⊎◌, List, [], ◌∷◌, ◌++◌, refl, sym, ap, ◌∙◌, subst, inl, inr, arith, length, drop, take, length-append}
 use Rattle.std.proofs.lemmas.Bool.{cases_eq, cases_lt}
 use Rattle.std.proofs.lemmas.Grind.{common_steps}
