@@ -121,8 +121,9 @@ abbrev pub is_boundary_at : Flavor → List ℕ → ℕ → Bool
 is_boundary_at f window i =
     boundary_by (width_at f window (i + 4)) (width_at f window (i + 3)) (width_at f window (i + 2)) (width_at f window (i + 1)) (width_at f window i)
 
--- How many bytes an offset saves: three times the length of the character that begins there, less
--- the length of its UTF-8. An ill-formed byte saves none.
+-- How many bytes an offset saves, by the width w of the character that begins there and its first
+-- byte b: three times w, less the length of its UTF-8. If none begins there, w is 0, and the offset
+-- saves none.
 abbrev pub saved : ℕ → ℕ → ℕ
 saved w b =
     if w == 1 then 2

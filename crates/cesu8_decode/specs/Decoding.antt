@@ -32,8 +32,8 @@ abbrev pub most_written : Strictness → ℕ → ℕ
 most_written Strict n = n
 most_written Lossy n = WIDEST * n
 
--- The space that n bytes need in a buffer: for their text, and after it for the text of one more
--- window.
+-- The space that n bytes need in a buffer: for their text, and `ROOM` more, without which the pass
+-- stops.
 abbrev pub room_for : Strictness → ℕ → ℕ
 room_for which n = most_written which n + ROOM
 
@@ -110,7 +110,8 @@ abbrev pub pass_from : ℕ → Pass
 pass_from read = record { read = read; end = 0; is_rejected = false }
 
 -- The pass has read more bytes, and their text is written after the text of the bytes that were
--- read before.
+-- read before. In the field `text`, the variable `text` is what was written before this buffer was
+-- used, and `start` is what precedes the text of the first byte.
 pub record GoesOn (f : Flavor) (which : Strictness) (bytes : List ℕ) (before after : Pass) (old new : List ℕ) : Type 0 where
   pub pass : after.is_rejected ≡ false → IsPass f bytes after.read
   pub within : (before.read ≤ after.read) × (after.read ≤ length bytes)

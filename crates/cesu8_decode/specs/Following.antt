@@ -9,7 +9,7 @@ use Rattle.cesu8_decode.specs.declared.lanes.character_set.Block.{Block}
 use Rattle.cesu8_decode.specs.declared.lanes.character_set.Rule.{Rule}
 use Rattle.cesu8_decode.specs.declared.lanes.character_set.TheConstants.{ENCODED, UNCHANGED}
 
--- The set of characters: all encoded characters, or those of them that are unchanged in UTF-8.
+-- A set of characters: all encoded characters, or those of them that are unchanged in UTF-8.
 pub data CharacterSet : Type 0 where
   Encoded : CharacterSet
   Unchanged : CharacterSet

@@ -15,7 +15,7 @@ use Rattle.cesu8_decode.specs.DecodedOffsets.{one_at, two_at, three_at, width_at
 pub record HasBits (mask : ℕ) (test : ℕ → Bool) : Type 0 where
   pub bit : (i : ℕ) → bit_at mask i ≡ if test i then 1 else 0
 
--- The byte has the bit set that is `below` places below the highest.
+-- The bit of the byte that is `below` places below the highest is set.
 abbrev pub has_bit_below : ℕ → ℕ → Bool
 has_bit_below below b = nat_le 0x80 (b * 2 ^ below % 2 ^ 8)
 
@@ -42,7 +42,7 @@ is_other_at f bytes i = not (one_at f (slice_index bytes i))
 abbrev pub is_null_at : Flavor → List ℕ → ℕ → Bool
 is_null_at f bytes i = null_at f (slice_index bytes i) (slice_index bytes (i + 1))
 
--- Another character of two bytes begins at the offset.
+-- A character of two bytes other than C0 80 begins at the offset.
 abbrev pub is_two_at : List ℕ → ℕ → Bool
 is_two_at bytes i = two_at (slice_index bytes i) (slice_index bytes (i + 1))
 
@@ -78,8 +78,8 @@ pub record IsWindow (f : Flavor) (bytes : List ℕ) (at : ℕ) (window : Window)
   -- The window ends at a character boundary.
   pub boundary : is_boundary_at f (window_of bytes) (at + window.len) ≡ true
 
--- A window of at most `width` bytes begins at offset `at`, which is a character boundary, and as
--- many bytes can be loaded after it.
+-- A window of at most `width` bytes begins at offset `at`, which is a character boundary, and
+-- `width` bytes can be loaded after it.
 pub record HoldWindow (f : Flavor) (bytes : List ℕ) (at width : ℕ) (window : Window) : Type 0 where
   pub is_window : IsWindow f bytes at window
   pub boundary : is_boundary_at f (window_of bytes) at ≡ true

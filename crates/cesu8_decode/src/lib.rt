@@ -1,9 +1,9 @@
 //! The decoder: turns CESU-8 or MUTF-8 into UTF-8. It is internal: users call `simd_cesu8`.
 //!
-//! An encoded character has at most six bytes, two never overlap, and its own bytes alone decide
-//! whether one begins at an offset. So the bytes near an offset decide what lossy decoding makes of
-//! the byte there: it is copied, converted, dropped, or ill-formed and replaced by U+FFFD. In
-//! strict decoding an ill-formed byte is an error.
+//! An encoded character has at most six bytes, and no two characters overlap. Whether one begins at
+//! an offset depends on its own bytes alone. So the bytes near an offset decide what lossy decoding
+//! makes of the byte there: it is copied, converted, dropped, or ill-formed and replaced by U+FFFD.
+//! In strict decoding an ill-formed byte is an error.
 //!
 //! The modules, in the order in which a call uses them:
 //!
@@ -78,7 +78,7 @@ pub fn decode_strict<F: Flavor>(
 /// Returns the lossily decoded text. Allocates once, exactly its length; a length over `usize` is
 /// reported as a failed allocation. `prefix` is the unchanged prefix, which is not the whole input.
 /// At most the first 4,096 bytes (`LARGEST_ARRAY`) are decoded to the stack before the allocation,
-/// so that they need no separate pass for their length. It is not inlined, as `decode_strict`.
+/// so that they need no separate pass for their length. Like `decode_strict`, it is not inlined.
 #[inline(never)]
 pub fn decode_lossy<F: Flavor>(
     alloc: Global,

@@ -99,7 +99,7 @@ fn following_from<F: Flavor, S: CharacterSet>(bytes: &[u8], start: usize) -> usi
 }
 
 /// Returns an offset up to which every byte can follow the bytes before it. It tests two blocks at
-/// once from `start` on, and stops before the first two with an error.
+/// once from `start` on, and stops before the first two in which there is an error.
 #[inline(always)]
 fn following_twos<F: Flavor, S: CharacterSet>(bytes: &[u8], start: usize) -> usize
     requires first { FirstFollow S.set F.flavor bytes.now start }

@@ -26,7 +26,7 @@
 //! bytes (`FIRST_RUN`), and each later one after at least 64 (`NEXT_RUN`). The rest is decoded by
 //! one window if it has at most 64 bytes, and otherwise by chunks, which use a small array if the
 //! `String` has little capacity left. Before strict decoding starts an array or chunks, it rejects
-//! input that ends within a character.
+//! input that ends within a character, except after the first half of a surrogate pair.
 
 ghost use Rattle.std.specs.Prelude.{◌≤◌, ◌↔◌, IsTrue, length};
 ghost use Rattle.cesu8_decode.specs.Decoding.{Takes};

@@ -1,4 +1,4 @@
--- What the functions promise that encode a string.
+-- What the functions that encode a string promise.
 use Rattle.std.specs.Prelude.{◌≡◌, ℕ, ◌+◌, ◌≤◌, List, ◌++◌, Vec, length, take, Result, IfOk, OnOk, OnErr, IsOk, vec_len, vec_capacity}
 use Rattle.std.specs.Str.{chars}
 use Rattle.cesu8_text.specs.Encoding.{Flavor, encoding}

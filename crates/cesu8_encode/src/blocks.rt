@@ -1,9 +1,9 @@
 //! Encodes a block of 32 bytes with vectors.
 //!
 //! Each byte becomes one byte or two, which depend on the byte, the two before it and the one after
-//! it. Four loads that begin one byte apart put these four bytes into one lane each. Eight bytes
-//! become a row of sixteen lanes. One shuffle packs the lanes that are written. The row is stored
-//! whole, and the next row overwrites what lies after its end.
+//! it. Four loads that begin one byte apart put these four bytes into the same lane of four
+//! vectors. Eight bytes become a row of sixteen lanes. One shuffle packs the lanes that are
+//! written. The row is stored whole, and the next row overwrites what lies after its end.
 //!
 //! A block inside a string can be copied if no byte of it changes, nor one of the two before it. If
 //! only null characters change, no neighbor matters, and computing the lanes takes fewer steps.
@@ -26,7 +26,8 @@ use std::simd::prelude::*;
 /// The bytes before a block that are read with it, since they decide what its bytes become.
 pub const READ_BEFORE: usize = 2;
 
-/// The bytes after a block that are read with it: of `a b c d`, `a` and `b` take bits of the next.
+/// The bytes after a block that are read with it: of the four bytes `a b c d` of a character, `a`
+/// and `b` take bits of the next one.
 pub const READ_AFTER: usize = 1;
 
 /// The bytes that are read to encode a block.

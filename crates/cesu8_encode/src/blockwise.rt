@@ -61,9 +61,10 @@ fn write_first_block<F: Flavor>(text: &[u8], out: &mut [u8]) -> usize
     write_block::<F>(&window, BLOCK, out, 0)
 }
 
-/// Encodes the blocks between the first and the last, and returns the end of what it wrote. The
-/// strategy `NullChange` is correct only if no byte is F0 or more (hexadecimal), and `middle_of`
-/// chooses it only then. The others are correct for any string.
+/// Encodes the blocks between the first and the last, and returns the end of what it wrote.
+/// `blocks` is the number of blocks before the last, including the first. The strategy `NullChange`
+/// is correct only if no byte is F0 or more (hexadecimal), and `middle_of` chooses it only then.
+/// The others are correct for any string.
 #[inline(always)]
 fn write_middle<F: Flavor>(
     text: &[u8],

@@ -10,7 +10,7 @@
 //! To a caller's slice, more than a block is counted, and encoded in place. At most a block goes
 //! through the stack: rows are stored whole, and the slice after the encoding must not change.
 //!
-//! These strategies are tests and no enum: computing one cost `encode` 13 instructions.
+//! These strategies are tests, not an enum: computing its value cost `encode` 13 instructions.
 //!
 //! The blocks between the first and the last have bytes of the string on both sides. How these are
 //! encoded depends on the growth: how many bytes longer than the string the encoding is. The first

@@ -21,7 +21,7 @@ pub fn encode_to_slice<F: Flavor>(text: &str, buf: &mut [u8]) -> Result<usize, N
     ensures { PutsAnswer (encoding F.flavor (chars text.now)) result buf.old buf.new }
 {
     if is_block(text) {
-        // The compiler knows that the test and the copy get at most 32 bytes, and omits the rest.
+        // The compiler knows that test and copy get at most 32 bytes, and omits the code for more.
         if !may_need_encoding::<F>(text) {
             return copy_to_slice(text.as_bytes(), buf);
         }

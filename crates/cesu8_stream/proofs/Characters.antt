@@ -1,4 +1,4 @@
--- One character in each way of writing: its length, and that it is the only one that begins bytes.
+-- One character in CESU-8, MUTF-8 or UTF-8: its length, and that at most one begins the same bytes.
 use Rattle.std.proofs.lemmas.Bool.Decides.{nat_tests}
 use Rattle.std.proofs.Common.{◌≡◌, inl, inr, ℕ, ◌+◌, ◌<◌, ◌≤◌, ◌⊎◌, List, [], ◌∷◌, ◌++◌, refl, sym, ◌∙◌, arith, length, append-nil}
 use Rattle.simd_cesu8.specs.Text.{IsScalarValue, utf8_of, utf8}
@@ -30,7 +30,7 @@ pub utf8_few : (c : ℕ) → length (utf8 (c ∷ [])) ≤ 4
 unfolding utf8_of
 utf8_few c = grind (arith, nat_tests)
 
--- One character at most begins bytes in UTF-8.
+-- At most one character begins the same bytes in UTF-8.
 same_utf8 : (c d : ℕ) (r q : List ℕ) → IsScalarValue c → IsScalarValue d → utf8_of c ++ r ≡ utf8_of d ++ q → c ≡ d
 unfolding utf8_of
 same_utf8 c d r q scalar other_scalar same = grind (arith, nat_tests)
@@ -40,7 +40,7 @@ one_utf8_begins bytes c d begins other =
     same_utf8 c d begins.rest other.rest begins.scalar other.scalar
     (rw (sym (append-nil (utf8_of c)), sym (append-nil (utf8_of d))) (sym begins.bytes_are ∙ other.bytes_are))
 
--- One character at most begins bytes in an encoding. `NoOverlap` is what the function
+-- At most one character begins the same bytes in an encoding. `NoOverlap` is what the function
 -- `laws::no_overlap` of simd_cesu8 ensures: a proof that cites this lemma has it from a call.
 pub one_encoded_begins : NoOverlap → (f : Flavor) (bytes : List ℕ) (c d : ℕ) → Begins (encoding f) bytes c →
     Begins (encoding f) bytes d → c ≡ d

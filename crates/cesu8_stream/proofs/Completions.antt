@@ -1,4 +1,5 @@
--- A part of a character is completed by the bytes of a fixed one.
+-- A part of an encoded character is completed by the bytes of a fixed one: U+10000 (`pair_bytes`),
+-- or U+0000 of MUTF-8 (`null_bytes`). So `may_begin` of src/completion.rt tests only these two.
 use Rattle.std.proofs.Common.{◌≡◌, ℕ, ◌+◌, ◌*◌, ◌<◌, ◌≤◌, ◌⊎◌, List, [], ◌∷◌, ◌++◌, refl, sym, ap, ◌∙◌, subst, inl, inr, arith, length, drop, take, length-append}
 use Rattle.std.proofs.lemmas.Bool.{cases_eq, cases_lt}
 use Rattle.std.proofs.lemmas.Grind.{common_steps}
@@ -63,7 +64,7 @@ two_completes f c x y scalar digits (a ∷ b ∷ bytes) more rest part same =
       bytes_are = rw (encoding_two f c x y digits, first.0, second.0) refl;
     }))
 
--- One of three bytes is its first one or two bytes.
+-- A part of a character of three bytes is its first one or two bytes.
 three_completes : (f : Flavor) (c x y z : ℕ) → IsScalarValue c → IsThree c x y z → (bytes more rest : List ℕ) → IsPart (encoding f) bytes →
     bytes ++ more ≡ (0xE0 + x) ∷ (0x80 + y) ∷ (0x80 + z) ∷ rest → IsCompletedBy (encoding f) pair_bytes bytes
 three_completes f c x y z scalar digits [] more rest part same = absurd (let h = part.some in omega arith)
@@ -95,7 +96,7 @@ three_completes f c x y z scalar digits (a ∷ b ∷ d ∷ bytes) more rest part
       bytes_are = rw (encoding_three f c x y z digits, first.0, second.0, third.0) refl;
     }))
 
--- One of a surrogate pair is its first one to five bytes.
+-- A part of a surrogate pair is its first one to five bytes.
 pair_completes : (f : Flavor) (c w x y z : ℕ) → IsScalarValue c → IsPair c w x y z → (bytes more rest : List ℕ) → IsPart (encoding f) bytes →
     bytes ++ more ≡ 0xED ∷ (0xA0 + w) ∷ (0x80 + x) ∷ 0xED ∷ (0xB0 + y) ∷ (0x80 + z) ∷ rest →
     IsCompletedBy (encoding f) pair_bytes bytes
@@ -207,15 +208,15 @@ part_completes f bytes more c some none begins = by (shape c begins.scalar)
         inl (pair_completes f c w x y z begins.scalar digits bytes more begins.rest part
         (along _ (encoding_pair f c w x y z digits)))
 
--- A test of bytes that a tail completes: the first n of them are a text, and if more follow, no
--- character begins those.
+-- A test of bytes with a tail after them (`whole`): the first n bytes are a text, and if more
+-- follow, no character begins those.
 pub record IsTested (write : List ℕ → List ℕ) (bytes tail whole : List ℕ) (n : ℕ) : Type 0 where
   pub completed : whole ≡ bytes ++ tail
   pub nonempty : 0 < length bytes
   pub valid : (text : List ℕ) × IsWritten write (take n whole) text
   pub stops : n < length whole → BeginsNone write (drop n whole)
 
--- If that text has a byte, some bytes complete the bytes.
+-- If n is not 0, the tail makes a character of the bytes.
 pub found_begins : (write : List ℕ → List ℕ) (bytes tail whole : List ℕ) (n : ℕ) → Appends write → write [] ≡ [] →
     IsTested write bytes tail whole n → 0 < n → MayBegin write bytes
 found_begins write bytes tail whole n append empty test some =
@@ -225,7 +226,7 @@ found_begins write bytes tail whole n append empty test some =
     let longer = begins_longer write (take n whole) (drop n whole) front.0 front.1 in
     (tail, front.0, subst (λ bs. Begins write bs front.0) (take-append-drop n whole ∙ test.completed) longer)
 
--- If that tail makes a character of the bytes, the text has a byte.
+-- If the tail makes a character of the bytes, n is not 0.
 pub begins_found : (write : List ℕ → List ℕ) (bytes tail whole : List ℕ) (n : ℕ) →
     IsTested write bytes tail whole n → BeginsSome write (bytes ++ tail) → 0 < n
 begins_found write bytes tail whole n test some = by (cases_lt 0 n)

@@ -1,4 +1,5 @@
--- Input can be cut at an offset that no character crosses, for `is_cut`.
+-- Input can be cut at an offset that no character crosses, for `is_cut` of src/cut.rt. A character
+-- has at most six bytes, so one that crosses an offset begins at most five before it.
 use Rattle.std.proofs.Common.{◌≡◌, ℕ, ◌+◌, ◌-◌, ◌<◌, ◌≤◌, ◌⊎◌, List, [], ◌∷◌, ◌++◌, sym, ap, ◌∙◌, subst, inl, inr, arith, length, take, drop, append_assoc}
 use Rattle.std.proofs.lemmas.List.{take-append-drop}
 use Rattle.std.proofs.lemmas.Grind.{common_steps}
@@ -6,12 +7,13 @@ use Rattle.std.proofs.lemmas.Bool.{cases_lt}
 use Rattle.cesu8_stream.specs.Written.{Begins, NoneCrosses}
 use Rattle.cesu8_stream.proofs.First.{Sizes, begins_prefix}
 
--- No character begins at these offsets, from five before the place on, and ends after it.
+-- No character begins at an offset below `start`, at most five before the place, and ends after the
+-- place.
 abbrev pub NoneFrom : (List ℕ → List ℕ) → List ℕ → ℕ → ℕ → Type 0
 NoneFrom write bytes place start =
     (i c : ℕ) → i < start → place ≤ i + 5 → Begins write (drop i bytes) c → i + length (write (c ∷ [])) ≤ place
 
--- One more offset.
+-- One more offset, if no character begins there and ends after the place.
 pub one_more : (write : List ℕ → List ℕ) (bytes : List ℕ) (place start : ℕ) → start < place → NoneFrom write bytes place start →
     ((c : ℕ) → Begins write (drop start bytes) c → length (write (c ∷ [])) ≤ place - start) →
     NoneFrom write bytes place (start + 1)
@@ -35,7 +37,7 @@ drop_before i place bytes more low within =
     ∙ ap (λ bs. bs ++ more) (take-append-drop place bytes))
     ∙ drop_front i bytes more (omega arith)
 
--- None at the last five offsets, so none at all, whatever follows.
+-- If no character at the five offsets before the place crosses it, none does, whatever follows.
 pub none_crosses : (write : List ℕ → List ℕ) (bytes more : List ℕ) (place : ℕ) → Sizes write → place + 5 ≤ length bytes →
     NoneFrom write bytes place place → NoneCrosses write (take place bytes) (drop place bytes ++ more)
 none_crosses write bytes more place sizes within none i c low b =

@@ -1,4 +1,5 @@
--- The first character of bytes: whether one begins them, and that the shortest valid prefix is it.
+-- The first character of bytes: whether one begins them, and that the shortest valid prefix is it,
+-- for src/engine.rt and src/cut.rt.
 use Rattle.std.proofs.Common.{◌≡◌, ℕ, min, ◌+◌, ◌-◌, ◌<◌, ◌≤◌, ◌⊎◌, List, [], ◌∷◌, ◌++◌, sym, ap, ◌∙◌, subst, inl, inr, arith, length, take, drop, append_assoc, length-append}
 use Rattle.std.proofs.lemmas.Grind.{common_steps}
 use Rattle.std.proofs.Math.Seq.{take-append-add}
@@ -17,7 +18,7 @@ pub first_bytes : (write : List ℕ → List ℕ) (bytes : List ℕ) (c : ℕ) (
 first_bytes write bytes c b =
     ap (take (length (write (c ∷ [])))) b.bytes_are ∙ grind (arith, common_steps)
 
--- They are not more than there are.
+-- A character that begins bytes is no longer than they are.
 pub first_length : (write : List ℕ → List ℕ) (bytes : List ℕ) (c : ℕ) → Begins write bytes c →
     length (write (c ∷ [])) ≤ length bytes
 first_length write bytes c b =
@@ -25,7 +26,7 @@ first_length write bytes c b =
     ap length b.bytes_are ∙ length-append (write (c ∷ [])) b.rest in
     omega (arith, e)
 
--- So that character also begins the first bytes, if these are enough,
+-- It also begins the first n bytes, if it has no more than n bytes,
 pub begins_prefix : (write : List ℕ → List ℕ) (bytes : List ℕ) (n c : ℕ) → Begins write bytes c →
     length (write (c ∷ [])) ≤ n → Begins write (take n bytes) c
 begins_prefix write bytes n c b enough =

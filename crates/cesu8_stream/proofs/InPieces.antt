@@ -1,4 +1,5 @@
--- The law of calls in a row.
+-- The law of calls in a row, which `laws::in_pieces` ensures. `kept` is what earlier calls have
+-- left of the input, and `rest` is what the last one leaves.
 use Rattle.std.proofs.Common.{◌≡◌, ℕ, List, [], ◌∷◌, ◌++◌, refl, sym, ap, ◌∙◌, take, drop, append-nil, append_assoc}
 use Rattle.std.proofs.lemmas.List.{take-append-drop}
 use Rattle.simd_cesu8.specs.Text.{IsText, utf8}

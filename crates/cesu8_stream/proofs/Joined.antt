@@ -39,7 +39,7 @@ joined_front a b w v old mid new first second =
       rw (before, second.1, after, drop_more w v old) (sym (append_assoc a b (drop v (drop w old)))),
     )
 
--- Two calls in a row are one.
+-- Two calls in a row are one: the first reads m bytes and writes w, the second n and v.
 pub joined : (from to : List ℕ → List ℕ) (bytes old mid new : List ℕ) (m w n v : ℕ) → Appends from → Appends to →
     Converts from to bytes m w old mid → Converts from to (drop m bytes) n v (drop w mid) new →
     Converts from to bytes (m + n) (w + v) old (take w mid ++ new)

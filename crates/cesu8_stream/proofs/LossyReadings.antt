@@ -1,4 +1,4 @@
--- What the loop of the lossy decoder has read, step by step.
+-- What the loop of the lossy decoder (`decode_lossy` of src/lossy.rt) has read, step by step.
 use borrow.Rule.Slice.PartMut.{put_mid}
 use Rattle.std.proofs.Common.{◌≡◌, ℕ, ◌+◌, ◌-◌, ◌<◌, ◌≤◌, ◌⊎◌, ◌↔◌, List, [], ◌∷◌, ◌++◌, Bool, true, false, refl, sym, ap, ◌∙◌, subst, inl, inr, arith, length, take, drop, append-nil, append_assoc, length-append, length-drop}
 use Rattle.std.proofs.lemmas.Grind.{common_steps}
@@ -21,7 +21,7 @@ use Rattle.cesu8_stream.proofs.Pieces.{to_end}
 use Rattle.cesu8_stream.proofs.First.{begins_longer}
 use Rattle.cesu8_stream.proofs.Utf8.{utf8_appends}
 
--- The lossy reading of an encoded text, and more.
+-- An encoded text with more bytes after it is read as the text, and then as these bytes are read.
 pub text_read : Around → (f : Flavor) (text more : List ℕ) → IsText text →
     reading f (encoding f text ++ more) ≡ text ++ reading f more
 text_read around f text more is_text =
@@ -30,7 +30,8 @@ text_read around f text more is_text =
     ap (reading f) (sym (append-nil whole) ∙ ap (λ bs. whole ++ bs) (sym (encoding_empty f)))
     ∙ e ∙ append-nil (text ++ reading f more)
 
--- The lossy reading of a byte that begins no character, and more.
+-- If no character begins some bytes, they are read as U+FFFD for the first one, and then as the
+-- others are read.
 pub damage_read : Split → Places → (f : Flavor) (byte : ℕ) (more : List ℕ) → BeginsNone (encoding f) (byte ∷ more) →
     reading f (byte ∷ more) ≡ 0xFFFD ∷ reading f more
 damage_read split places f byte more none =
@@ -106,14 +107,14 @@ which Incomplete = inr (inl refl)
 which OutputFull = inr (inr (inl refl))
 which Malformed = inr (inr (inr refl))
 
--- What the strict call says of what it left.
+-- What the strict call, `convert_rest`, says of what it left.
 pub record IsLeft (from : List ℕ → List ℕ) (rest : List ℕ) (room : ℕ) (state : State) : Type 0 where
   pub input_empty : (state ≡ InputEmpty) ↔ (rest ≡ [])
   pub incomplete : (state ≡ Incomplete) ↔ IsPartial from rest
   pub malformed : (state ≡ Malformed) ↔ NeverBegins from rest
   pub output_full : (state ≡ OutputFull) ↔ BeginsLonger from utf8 rest room
 
--- It left no damage: so the states of the lossy call.
+-- If it left no damage, the lossy call returns its state, which is right for that call too.
 kept_incomplete : (from : List ℕ → List ℕ) (is_last : Bool) (rest : List ℕ) (room : ℕ) (state : State) →
     IsLeft from rest room state → is_damage state is_last ≡ false → (state ≡ Incomplete) ↔ StaysForNext from is_last rest
 kept_incomplete from is_last rest room state left kept = (
@@ -141,7 +142,7 @@ kept_full from is_last rest room state left kept = ((λ s. inl (left.output_full
     back (inl longer) = left.output_full.1 longer
     back (inr replaced) = by replaced.0 (which state)
 
--- It left damage: so the byte there is replaced, whatever may follow.
+-- If it left damage, the byte there is replaced, whatever may follow.
 pub never_follows : (from : List ℕ → List ℕ) (is_last : Bool) (rest : List ℕ) (room : ℕ) (state : State) →
     IsLeft from rest room state → is_damage state is_last ≡ true → (more : List ℕ) → MayFollow is_last more →
     BeginsNone from (rest ++ more)
@@ -169,7 +170,7 @@ is_replaced from is_last rest room state left damage = record {
       let is_false = stays.0 in cc));
 }
 
--- What a strict call on the rest says, of the whole input.
+-- What a strict call on the rest says, in terms of the whole input.
 pub left_by : (from to : List ℕ → List ℕ) (widest : ℕ) (bytes old buf new : List ℕ) (m w : ℕ) (found : Progress) →
     ((t : List ℕ) → to t ≡ utf8 t) → length buf ≡ length old →
     ConvertsPiece from to widest (drop m bytes) found (drop w buf) new →
@@ -240,8 +241,8 @@ pub same_length : (w : ℕ) (buf new old : List ℕ) → length new ≡ length (
     length (take w buf ++ new) ≡ length old
 same_length w buf new old long same = grind (arith, common_steps)
 
--- How far a turn of the loop came by a strict call on the rest: what was read, and what the call
--- left.
+-- How far an iteration of the loop came by a strict call on the rest: what was read, and what the
+-- call left.
 pub record IsFound (from reading : List ℕ → List ℕ) (is_last : Bool) (bytes old new : List ℕ) (n w : ℕ) (state : State) : Type 0 where
   pub within : n ≤ length bytes
   pub reads : ReadsOn reading is_last bytes n w old new

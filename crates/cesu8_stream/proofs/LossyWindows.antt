@@ -1,5 +1,5 @@
--- What the lossy decoder reads by windows. `ReadsOn` says that a call has read n bytes and written
--- w bytes of UTF-8, and that what follows is read by itself.
+-- What the lossy decoder reads by windows (src/lossy_windows.rt). `ReadsOn` says that a call has
+-- read n bytes and written w bytes of UTF-8, and that what follows is read by itself.
 use Rattle.std.proofs.Common.{◌≡◌, ℕ, List, [], ◌++◌, Bool, false, refl, sym, ap, ◌∙◌, take, drop, append_assoc}
 use Rattle.std.proofs.lemmas.List.{take-append-drop}
 use Rattle.simd_cesu8.specs.Text.{IsText, utf8}

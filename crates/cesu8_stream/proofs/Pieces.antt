@@ -1,4 +1,4 @@
--- What the loops of the engine convert, step by step.
+-- What the loops of the engine (src/engine.rt) convert, step by step.
 use borrow.Rule.Slice.PartMut.{put_mid}
 use Rattle.std.proofs.Common.{◌≡◌, ℕ, ◌+◌, ◌-◌, ◌<◌, ◌≤◌, ◌⊎◌, List, [], ◌∷◌, ◌++◌, refl, sym, ap, ◌∙◌, inl, inr, arith, length, take, drop}
 use Rattle.std.proofs.lemmas.Grind.{common_steps}
@@ -11,7 +11,8 @@ use Rattle.cesu8_stream.specs.declared.progress.State.TheVariants.{OutputFull}
 use Rattle.cesu8_stream.proofs.Joined.{Appends, joined, drop_more}
 use Rattle.cesu8_stream.proofs.First.{Sizes}
 
--- What is known of a conversion.
+-- What is known of a conversion from one way of writing to another, in which a character has at
+-- most `widest` bytes.
 pub record IsConversion (from to : List ℕ → List ℕ) (widest : ℕ) : Type 0 where
   pub append_from : Appends from
   pub append_to : Appends to

@@ -1,4 +1,5 @@
--- A scalar value by its digits, and its bytes in each way of writing.
+-- A scalar value by its digits, the groups of its bits that its bytes hold, and its bytes in each
+-- way of writing.
 use Rattle.std.proofs.lemmas.Bool.Decides.{nat_tests}
 use Rattle.std.proofs.Common.{◌≡◌, ℕ, ◌+◌, ◌-◌, ◌*◌, ◌/◌, ◌%◌, ◌<◌, ◌≤◌, ◌⊎◌, [], ◌∷◌, inl, inr, arith, append-nil}
 use Rattle.std.proofs.lemmas.Bool.{cases_lt}
@@ -6,7 +7,7 @@ use Rattle.simd_cesu8.specs.Text.{IsScalarValue, utf8_of, utf8}
 use Rattle.simd_cesu8.specs.Utf16.{units_of}
 use Rattle.simd_cesu8.specs.Encoding.{Flavor, short_form, form, encoding}
 
--- Of two bytes, of three, and a surrogate pair.
+-- The digits of a character of two bytes, of one of three, and of a surrogate pair.
 pub record IsTwo (c x y : ℕ) : Type 0 where
   pub value : c ≡ x * 0x40 + y
   pub low : 2 ≤ x
@@ -64,7 +65,8 @@ pub encoding_pair : (f : Flavor) (c w x y z : ℕ) → IsPair c w x y z →
 unfolding encoding form units_of
 encoding_pair f c w x y z digits = grind (arith, nat_tests)
 
--- The UTF-8 of one character. Here the first byte of four leads eighteen bits.
+-- The UTF-8 of one character. If it has four bytes, its digits (`IsFour`) are not those of a
+-- surrogate pair: the first byte holds the bits from bit 18 on.
 pub utf8_one : (c : ℕ) → c < 0x80 → utf8 (c ∷ []) ≡ c ∷ []
 unfolding utf8_of
 utf8_one c low = grind (arith, nat_tests)

@@ -1,5 +1,6 @@
--- The state of what is left. Exactly one of four facts is true of it: it is empty, a character
--- begins it, it is a part of a character, or no character can begin it.
+-- The state of what is left, for `state_of` of src/engine.rt. Exactly one of four facts is true of
+-- it: it is empty, a character begins it, it is a part of a character, or no character can begin
+-- it.
 use Rattle.std.proofs.Common.{◌≡◌, ℕ, ◌<◌, ◌≤◌, List, [], ◌∷◌, refl, sym, subst, inl, arith, length, take, drop, append-nil}
 use Rattle.std.proofs.lemmas.Grind.{common_steps}
 use Rattle.cesu8_stream.specs.Written.{Begins, BeginsNone, NeverBegins, IsPartial}
@@ -19,7 +20,7 @@ empty_may_begin from rest empty never =
       bytes_are = rw empty (sym (append-nil (from (0x41 ∷ []))));
     })
 
--- If a character begins the rest, one can.
+-- If no character can begin the rest, none begins it.
 never_none : (from : List ℕ → List ℕ) (rest : List ℕ) → NeverBegins from rest → BeginsNone from rest
 never_none from rest never c b = never [] c (subst (λ bs. Begins from bs c) (sym (append-nil rest)) b)
 

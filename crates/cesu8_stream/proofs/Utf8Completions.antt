@@ -1,4 +1,6 @@
--- A part of a character of UTF-8 is completed by the bytes of a fixed one.
+-- A part of a character of UTF-8 is completed by the bytes of a fixed one. There are two: after F4
+-- the second byte has to be low (`low_bytes`), and after E0 and F0 it has to be high
+-- (`high_bytes`).
 use Rattle.std.proofs.Common.{◌≡◌, ℕ, ◌+◌, ◌*◌, ◌/◌, ◌%◌, ◌<◌, ◌≤◌, ◌⊎◌, List, [], ◌∷◌, ◌++◌, refl, ap, ◌∙◌, inl, inr, arith, length}
 use Rattle.std.proofs.lemmas.Bool.{cases_eq}
 use Rattle.simd_cesu8.specs.Text.{IsScalarValue, utf8}
@@ -7,7 +9,7 @@ use Rattle.cesu8_stream.specs.Completions.{low_bytes, high_bytes, IsCompletedBy}
 use Rattle.cesu8_stream.proofs.Shapes.{IsTwo, IsThree, IsPair, IsFour, Shape, one, two, three, pair, shape, utf8_one, utf8_two, utf8_three, utf8_four}
 use Rattle.cesu8_stream.proofs.Completions.{BeginsSome, IsPart, cons_parts}
 
--- The part with the rest of either character begins with a character.
+-- The missing bytes of one of the two fixed characters make a character of the bytes.
 abbrev Completes : List ℕ → Type 0
 Completes bytes = IsCompletedBy utf8 low_bytes bytes ⊎ IsCompletedBy utf8 high_bytes bytes
 
@@ -61,7 +63,7 @@ two_completes c x y scalar digits (a ∷ b ∷ bytes) more rest part same =
       bytes_are = rw (utf8_two c x y digits, first.0, second.0) refl;
     }))
 
--- One of three bytes is its first one or two bytes.
+-- A part of a character of three bytes is its first one or two bytes.
 three_completes : (c x y z : ℕ) → IsScalarValue c → IsThree c x y z → (bytes more rest : List ℕ) → IsPart utf8 bytes →
     bytes ++ more ≡ (0xE0 + x) ∷ (0x80 + y) ∷ (0x80 + z) ∷ rest → Completes bytes
 three_completes c x y z scalar digits [] more rest part same = absurd (let h = part.some in omega arith)
@@ -96,7 +98,7 @@ three_completes c x y z scalar digits (a ∷ b ∷ d ∷ bytes) more rest part s
       bytes_are = rw (utf8_three c x y z digits, first.0, second.0, third.0) refl;
     }))
 
--- One of four bytes is its first one to three bytes.
+-- A part of a character of four bytes is its first one to three bytes.
 four_completes : (c w x y z : ℕ) → IsScalarValue c → IsFour c w x y z → (bytes more rest : List ℕ) → IsPart utf8 bytes →
     bytes ++ more ≡ (0xF0 + w) ∷ (0x80 + x) ∷ (0x80 + y) ∷ (0x80 + z) ∷ rest → Completes bytes
 four_completes c w x y z scalar digits [] more rest part same = absurd (let h = part.some in omega arith)

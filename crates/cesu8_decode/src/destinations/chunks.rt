@@ -15,9 +15,9 @@ use cesu8_bytes::strictness::{Reading, Strictness};
 use cesu8_bytes::writing::copies::{append, append_zeros};
 use cesu8_bytes::writing::offsets::put;
 
-/// How many bytes of a vector are cleared at once and then overwritten, at least `ROOM`. A smaller
-/// number would take more calls of the pass. A larger one would be cleared in vain if strict
-/// decoding finds an ill-formed byte soon.
+/// How many bytes of a vector are cleared at once and then overwritten, at least `ROOM` (in
+/// `pass::window`), which the pass requires. A smaller number would take more calls of the pass. A
+/// larger one would be cleared in vain if strict decoding finds an ill-formed byte soon.
 const CLEARED_AT_ONCE: usize = 4096;
 
 /// Appends the decoded text to a vector. In strict decoding an ill-formed byte is an error.
@@ -73,7 +73,7 @@ fn append_next<F: Flavor>(
     pass
 }
 
-/// Calls `append`, whose code for each length is long.
+/// Calls `append` out of line: its code, with a path for each range of lengths, is long.
 #[inline(never)]
 pub fn append_by_call(bytes: &[u8], out: &mut Vec<u8>)
     requires { vec_len out.old + length bytes.now ≤ vec_capacity out.old }

@@ -114,7 +114,8 @@ fn put_by_strategy<F: Flavor>(bytes: &[u8], buf: &mut [u8]) -> Result<usize, Wri
 {
     match strategy_of(bytes) {
         Strategy::Short => put_rest::<F>(bytes, buf),
-        // Input that ends within a character is rejected before all of it is decoded.
+        // Input that ends within a character, except after the first half of a surrogate pair, is
+        // rejected before all of it is decoded.
         _ if may_be_crossed::<Unchanged>(bytes, bytes.len()) => Err(WriteError::NoText),
         Strategy::SmallArray => put_by_array::<F, StrictReading, SMALL_STRICT>(bytes, buf),
         Strategy::LargeArray => put_by_array::<F, StrictReading, LARGE_STRICT>(bytes, buf),
@@ -122,8 +123,8 @@ fn put_by_strategy<F: Flavor>(bytes: &[u8], buf: &mut [u8]) -> Result<usize, Wri
     }
 }
 
-/// Writes the strictly decoded text of the last bytes, at most 64. As part of its caller, the
-/// compiler would store each result and load it again.
+/// Writes the strictly decoded text of the last bytes, at most 64. It is a function of its own: in
+/// its caller, the compiler would store each result and load it again.
 #[inline(always)]
 fn put_rest<F: Flavor>(bytes: &[u8], buf: &mut [u8]) -> Result<usize, WriteError>
     requires { length bytes.now ≤ LANES }
@@ -173,7 +174,8 @@ fn put_by_array<F: Flavor, S: Reading, const WRITTEN: usize>(
     copy_by_call(&written[..end], buf).map_err(WriteError::NoRoom)
 }
 
-/// Like `copy_to_slice`, but copies by a call, since the code for each length is long.
+/// Like `copy_to_slice`, but copies by a call, since that code, with a path for each range of
+/// lengths, is long.
 #[inline(always)]
 pub fn copy_by_call(bytes: &[u8], buf: &mut [u8]) -> Result<usize, NoRoom>
     ensures { PutsAnswer bytes.now result buf.old buf.new }

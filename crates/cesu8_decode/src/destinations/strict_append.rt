@@ -53,7 +53,8 @@ pub fn append_many<F: Flavor>(bytes: &[u8], len: usize, before: Vec<u8>) -> Resu
             return append_last::<F>(rest, text);
         }
         if !is_long {
-            // Input that ends within a character is rejected before all of it is decoded.
+            // Input that ends within a character, except after the first half of a surrogate pair,
+            // is rejected before all of it is decoded.
             if may_be_crossed::<Unchanged>(rest, rest.len()) {
                 return Err(NoText);
             }

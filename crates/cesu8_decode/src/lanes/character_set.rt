@@ -77,7 +77,8 @@ const FROM_80: u8 = FROM_A0 | OVERLONG_3;
 
 const FROM_B0: u8 = FROM_A0 | SURROGATE;
 
-/// Differs from `UNCHANGED` only in the entry for A0 to AF: after ED these begin a high surrogate.
+/// Differs from `UNCHANGED` in `has_changed`, and in the entry for A0 to AF: ED and one of these
+/// begin a high surrogate.
 const ENCODED: Rule = Rule {
     has_changed: true,
     by_high: BY_HIGH,

@@ -21,7 +21,8 @@ use cesu8_bytes::lanes::runs::lanes_before;
 use std::simd::prelude::*;
 
 /// Returns the block of 32 bytes that follow `before`. The first block follows zeros: any ASCII
-/// would be correct, if `after_fillers` used it too, but zeros take the fewest instructions.
+/// would be correct, if `after_fillers` of specs/Following used it too, but zeros take the fewest
+/// instructions.
 #[inline(always)]
 pub fn block_after(before: u8x32, bytes: u8x32) -> Block
     ensures { (set : AnySet) → IsBlockAt set (drop (BLOCK - DECIDING) (before ++ bytes)) 0 result }
@@ -56,7 +57,7 @@ pub fn two_follow<F: Flavor, S: CharacterSet>(bytes: &[u8], at: usize) -> bool
 {
     let first = u8x32::from_slice(&bytes[at..]);
     let second = u8x32::from_slice(&bytes[at + BLOCK..]);
-    // The earlier bytes are loaded only if this test for unchanged ASCII fails.
+    // The vectors of earlier bytes are loaded only if this test for unchanged ASCII fails.
     let above = (first | nulls::<F>(first)) | (second | nulls::<F>(second));
     let deciding = u8x4::from_slice(&bytes[at - DECIDING..]);
     if bits::<NonAscii, BLOCK>(above) == 0 && bits::<NonAscii, DECIDING>(deciding) == 0 {

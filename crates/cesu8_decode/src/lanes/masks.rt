@@ -68,7 +68,7 @@ pub fn masks_of<F: Flavor, const N: usize>(lanes: Simd<u8, N>, count: usize) -> 
     }
 }
 
-/// Returns the lowest `count` bits.
+/// Returns a mask in which the lowest `count` bits are set.
 #[inline(always)]
 #[tactic(auto, using(crate::proofs::decoder::MaskReturns::first_bits_returned))]
 fn first_bits(count: usize) -> u64
@@ -151,6 +151,7 @@ fn threes_and_pairs<const N: usize>(
     if surrogates == 0 {
         return (threes, 0);
     }
+    // A surrogate pair is a high surrogate and, three bytes later, a low one.
     let low = surrogates & (odd >> 1);
     (threes, surrogates & !low & (low >> 3))
 }

@@ -1,4 +1,6 @@
--- The encoder's vectors have, for each offset of a block, what the definitions by offsets say.
+-- The vectors of `encode_block` (src/blocks.rt) have, for each offset of a block, what the
+-- definitions by offsets say. A block of 32 bytes is read with two bytes before it and one after
+-- it, which are 35.
 use Rattle.std.proofs.Common.{◌≡◌, ℕ, ◌+◌, ◌%◌, ◌^◌, ◌≤◌, ◌∙◌, List, map, length, get_or, replicate, arith, w8, Fits}
 use Rattle.std.specs.List.{range_with_len}
 use Rattle.std.proofs.lemmas.List.FromFn.{length-range_with_len}
@@ -22,7 +24,7 @@ module _ (window : List ℕ) (at : ℕ) (room : at + 35 ≤ length window) where
       ∙ zip2_of_maps six_bits (λ i. get_or window (i + 2) 0) (λ i. get_or window (i + 3) 0) (range_with_len at 32)
       (loaded window at 2 32 (omega arith)) (loaded window at 3 32 (omega arith))
 
-  -- Adding the six bits to the start of a high surrogate's bytes does not overflow a lane.
+  -- Adding the six bits to 80 or 9F (`high_starts`) does not overflow a lane.
   pub highs_fit_at : (lead : List ℕ) → lead ≡ map (λ i. mask (is_at_least_f0 (get_or window (i + 2) 0))) (range_with_len at 32) →
       Each2 (λ a b. Fits w8 (a + b)) (six_bit_lanes 32 (chunk (at + 2) 32 window) (chunk (at + 3) 32 window)) (high_starts 32 lead)
   highs_fit_at lead lead_is =

@@ -1,4 +1,4 @@
--- What the encoder's vector operations compute, lane by lane.
+-- What the vector operations of `encode_block` (src/blocks.rt) compute, lane by lane.
 use Rattle.std.proofs.lemmas.Grind.{common_steps}
 use Rattle.std.proofs.Common.{◌≡◌, ℕ, ◌+◌, ◌*◌, ◌/◌, ◌%◌, ◌^◌, ◌<◌, Bool, true, false, cond, ◌||◌, ◌&&◌, List, [], ◌∷◌, map, length, replicate, eqb, bit_and, bit_or, refl, sym, ap, ◌∙◌, subst, arith, w8, Fits}
 use Rattle.std.specs.List.{flat_map}

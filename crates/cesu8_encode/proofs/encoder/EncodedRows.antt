@@ -1,4 +1,4 @@
--- Packing eight bytes by a shuffle, and 32 bytes by four of them.
+-- Packing eight bytes by a shuffle, for `store_row`, and 32 bytes by four, for `store_block`.
 use Rattle.std.proofs.lemmas.Bool.Decides.{nat_tests}
 use Rattle.std.proofs.lemmas.Grind.{common_steps}
 use Rattle.std.proofs.Common.{◌≡◌, ℕ, zero, suc, ◌+◌, ◌<◌, ◌≤◌, Bool, true, List, [], ◌∷◌, ◌++◌, map, length, take, drop, get_or, append_assoc, eqb, ltb, refl, sym, ◌∙◌, subst, arith, w8, count_ones, eqb-true, append-nil, ◌/◌, ◌%◌, ◌^◌, ap, bit_and}

@@ -1,5 +1,5 @@
 -- What is written for a part of a text, which the encoder reads through a window with zeros at the
--- ends.
+-- ends. A text is here the bytes of a string.
 use Rattle.std.proofs.lemmas.Bool.Decides.{nat_tests}
 use Rattle.std.proofs.lemmas.Grind.{common_steps}
 use Rattle.std.proofs.Common.{◌≡◌, ℕ, zero, suc, ◌+◌, ◌-◌, ◌*◌, ◌%◌, ◌^◌, ◌<◌, ◌≤◌, Bool, cond, List, [], ◌∷◌, ◌++◌, map, refl, sym, subst, ap, ◌∙◌, arith, length, take, drop, get_or, replicate, bit_and, length-append, append_assoc, count_ones, zero-add}
@@ -126,8 +126,8 @@ lanes_packed f window i seconds firsts doubled lanes = record {
 zeros_left : (n m j : ℕ) → ◌≡◌ {A = ℕ} (get_or (drop m (replicate n 0)) j 0) 0
 zeros_left n m j = get_or-drop m (replicate n 0) j 0 ∙ zeros_at n (m + j)
 
--- The first block: a window of two zeros, the first 33 bytes of the text and more zeros gives the
--- same as the text.
+-- The first block: a window of two zeros, the first 33 bytes of the text and more zeros gives what
+-- the text gives.
 pub encoded_bytes_first : (f : Flavor) (text near : List ℕ) (zeros m n : ℕ) → n ≤ 32 → near ≡ take 33 text →
     encoded_bytes f (0 ∷ 0 ∷ (near ++ drop m (replicate zeros 0))) 0 n ≡ encoded_bytes f (0 ∷ 0 ∷ text) 0 n
 encoded_bytes_first f text near zeros m n le is =
@@ -148,8 +148,8 @@ encoded_short f bytes text near near_is same is_utf8 short =
     ∙ encoded_bytes_first f bytes bytes 33 (length bytes) (length bytes) le (sym (take_all 33 bytes (omega arith)))
     ∙ recoded_chars f text bytes same is_utf8
 
--- The last block: a window of the last bytes of the text, followed by zeros, gives the same as the
--- text.
+-- The last block: a window of the last bytes of the text, followed by zeros, gives what the text
+-- gives.
 pub encoded_bytes_last : (f : Flavor) (text near : List ℕ) (i n : ℕ) → 2 ≤ i → near ≡ part_from (i - 2) text →
     encoded_bytes f (near ++ drop (length (part_from (i - 2) text)) (replicate 35 0)) 0 n ≡ encoded_bytes f (0 ∷ 0 ∷ text) i n
 encoded_bytes_last f text near i n le is =
@@ -158,8 +158,8 @@ encoded_bytes_last f text near i n le is =
     (λ k l. padded near (drop m (replicate 35 0)) (zeros_left 35 m) (0 + k))
     ∙ ap (λ window. encoded_bytes f window 0 n) is ∙ encoded_bytes_drop f text i n le
 
--- A block inside the text: a window of the block, two bytes before it and one after it gives the
--- same as the text.
+-- A block inside the text: a window of the block, two bytes before it and one after it gives what
+-- the text gives.
 pub encoded_bytes_window : (f : Flavor) (text : List ℕ) (at n : ℕ) → n ≡ 35 →
     encoded_bytes f (take n (drop at text)) 0 32 ≡ encoded_bytes f text at 32
 encoded_bytes_window f text at n all =

@@ -1,5 +1,5 @@
--- Blocks of a window without a byte of F0 or more (hexadecimal): only null characters change in
--- them.
+-- Blocks of a window without a byte of F0 or more (hexadecimal), for `write_nulls`: only null
+-- characters change in them.
 use Rattle.std.proofs.lemmas.Bool.Decides.{nat_tests}
 use Rattle.std.proofs.lemmas.Grind.{common_steps}
 use Rattle.std.proofs.Common.{◌≡◌, ℕ, zero, suc, ◌+◌, ◌<◌, ◌≤◌, Bool, false, List, ◌∷◌, map, refl, ap, ◌∙◌, arith, length, get_or, replicate, bit_and, bit_or}

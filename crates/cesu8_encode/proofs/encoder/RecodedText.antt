@@ -16,7 +16,8 @@ use Rattle.cesu8_text.proofs.text.Shapes.{Shape, IsPair, one, two, three, pair, 
 use Rattle.cesu8_text.proofs.encoding.Forms.{encoding_one, encoding_two, encoding_three, encoding_pair, short_form_other}
 use Rattle.cesu8_text.proofs.encoding.Encodings.{encoding_nil, encoding_cons}
 
--- Windows with equal bytes at some offsets give equal bytes there.
+-- What is written for n bytes depends only on n + 3 bytes of the window: windows that have equal
+-- bytes there give equal bytes.
 pub encoded_bytes_agree : (f : Flavor) (v w : List ℕ) (i j n : ℕ) → ((k : ℕ) → k < n + 3 → get_or v (i + k) 0 ≡ get_or w (j + k) 0) →
     encoded_bytes f v i n ≡ encoded_bytes f w j n
 unfolding encoded_bytes

@@ -1,4 +1,5 @@
--- Blocks that are unchanged, because none of their bytes changes, nor one of the two before.
+-- Blocks that are unchanged, because none of their bytes changes, nor one of the two before, for
+-- `is_unchanged`.
 use Rattle.std.proofs.lemmas.Bool.Decides.{nat_tests}
 use Rattle.std.proofs.lemmas.Grind.{common_steps}
 use Rattle.std.proofs.Common.{◌≡◌, ℕ, zero, suc, ◌+◌, ◌<◌, ◌≤◌, Bool, false, ◌||◌, List, [], ◌∷◌, map, refl, sym, ap, ◌∙◌, arith, length, get_or}

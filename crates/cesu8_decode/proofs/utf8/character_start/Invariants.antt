@@ -1,4 +1,4 @@
--- The last `back` bytes up to `at` are continuation bytes.
+-- The last `back` bytes up to and including the one at `at` are continuation bytes.
 use Rattle.std.proofs.Common.{ℕ, ◌-◌, ◌<◌, get_or}
 use Rattle.cesu8_text.specs.Patterns.{IsContinuation}
 use Rattle.cesu8_decode.proofs.utf8.character_start.Given as goal

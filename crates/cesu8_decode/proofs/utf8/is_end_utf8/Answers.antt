@@ -1,5 +1,5 @@
--- Zeros after the bytes are ASCII, so they do not change whether the bytes are UTF-8
--- (`with_zeros`).
+-- The rest is padded with zeros to 64 bytes. They are ASCII, so they do not change whether the
+-- bytes are UTF-8 (`with_zeros`).
 use Rattle.std.proofs.Common.{◌-◌, ◌++◌, length, append_assoc}
 use Rattle.cesu8_decode.proofs.chunks.Utf8Parts.{with_zeros}
 use Rattle.cesu8_decode.proofs.utf8.is_end_utf8.Goals as goal

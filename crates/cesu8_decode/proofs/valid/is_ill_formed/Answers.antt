@@ -1,5 +1,5 @@
 -- The valid prefix is the longest one with a strict reading. So all bytes have one exactly if the
--- prefix is all of them, and it is then their lossy reading.
+-- prefix is all of them, and their strict reading is then their lossy one.
 use Rattle.std.proofs.Common.{◌≡◌, ◌∙◌, ap, length, subst, sym, take, arith}
 use Rattle.std.proofs.Math.Seq.{take-length}
 use Rattle.std.proofs.lemmas.Bool.{ltb-true, ltb-false}

@@ -1,5 +1,6 @@
--- At most 64 bytes: the valid prefix ends at the first ill-formed byte, the lowest bit of the mask.
--- More: `longest_prefix` for the set of all encoded characters is the valid prefix.
+-- At most 64 bytes are one window: their valid prefix ends at the first ill-formed byte, the lowest
+-- set bit of the window's mask. For more bytes, `longest_prefix` for the set of all encoded
+-- characters is the valid prefix.
 use Rattle.cesu8_decode.proofs.chunks.MaskPrefixes.{valid_by_mask}
 use Rattle.cesu8_decode.proofs.chunks.LongestPrefixes.{valid_up_to_of}
 use Rattle.cesu8_decode.proofs.valid.valid_up_to_other.Goals as goal

@@ -1,5 +1,6 @@
--- Each computed lane is the byte that the definitions give for its offset. No addition overflows a
--- lane: the added bits are zero before, and no byte is both null and the lead byte of four bytes.
+-- Each computed lane is the byte that the definitions give for its offset: the block begins two
+-- bytes after `at`. No addition overflows a lane: 9F and six bits are at most DE (hexadecimal), and
+-- no byte is both null and the lead byte of four bytes.
 use Rattle.std.proofs.Common.{arith}
 use Rattle.cesu8_text.specs.Class.{is_at_least_f0, is_null}
 use Rattle.cesu8_bytes.proofs.vectors.Loads.{marks_at, marks_here}

@@ -1,4 +1,5 @@
--- The lanes and the mask of nulls are packed to the block's encoding.
+-- The lanes and the mask of nulls are packed to the block's encoding. The contract requires room
+-- for what the first three rows, 24 bytes, become, and for the vector of the last row.
 use Rattle.std.proofs.Common.{arith}
 use Rattle.cesu8_encode.proofs.encoder.EncodedWindows.{prefix_long}
 use Rattle.cesu8_encode.proofs.encoder.LowBlocks.{low_packed}

@@ -1,4 +1,5 @@
--- The lanes of a block are packed to its encoding.
+-- The lanes of a block are packed to its encoding. The contract requires room for what the first
+-- three rows, 24 bytes, become, and for the vector of the last row.
 use Rattle.std.proofs.Common.{arith}
 use Rattle.cesu8_encode.proofs.encoder.EncodedWindows.{lanes_packed, prefix_long}
 use Rattle.cesu8_encode.proofs.blocks.write_rows.Goals as goal

@@ -1,4 +1,5 @@
--- The first three rows have at most 48 bytes.
+-- The first three rows, 24 bytes, become at most 48, and the vector of the last row has 16 bytes.
+-- So the rows fit in 64.
 use Rattle.std.proofs.Common.{arith}
 use Rattle.cesu8_encode.proofs.encoder.EncodedWindows.{at_most_twice}
 use Rattle.cesu8_encode.proofs.blocks.write_rows_by_call.Goals as goal

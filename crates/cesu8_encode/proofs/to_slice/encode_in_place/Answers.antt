@@ -1,4 +1,5 @@
--- The slice that is written to is as long as the encoding, so the encoding fills it.
+-- The slice that is written to is as long as the encoding, so the encoding fills it. `needed` and
+-- `unchanged` say something of an error only, and this return is `Ok`, so `tt` proves them.
 use Rattle.std.proofs.Common.{◌∙◌, sym, ap, ℕ, arith, rules, drop, length, ◌++◌, ◌≤◌}
 use Rattle.std.proofs.lemmas.List.{take_all, length-take}
 use Rattle.cesu8_encode.proofs.to_slice.encode_in_place.Goals as goal

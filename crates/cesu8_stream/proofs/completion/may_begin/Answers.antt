@@ -1,5 +1,5 @@
--- If a character begins one of the two completions, some bytes after these make a character. And if
--- some bytes do, one of the two completions is a character, by `completed` of `laws`.
+-- If a character begins one of the two completions, its added bytes make a character of the tested
+-- ones. And if any bytes do, those of one of the two completions do, by `completed` of `laws`.
 use Rattle.std.proofs.Common.{◌<◌, ◌++◌, drop, length, inl, inr, ap, ◌∙◌, arith}
 use Rattle.std.proofs.lemmas.Bool.Decides.{nat_tests}
 use Rattle.cesu8_stream.proofs.Completions.{IsTested, found_begins, begins_found}
