@@ -22,7 +22,7 @@ none_yet texts arena ends = record {
   ends_are = λ i before. absurd (omega (arith, before));
 }
 
--- The encodings of one text more are one encoding more.
+-- With one more text, one more encoding follows the others.
 first_encoded_next : Concat → (texts : List (Bor (List ℕ))) (count : ℕ) (d : Bor (List ℕ)) →
     count < length texts →
     first_encoded texts (count + 1) ≡ first_encoded texts count ++ encoded (get_or texts count d)
@@ -59,7 +59,7 @@ written_next front text old now part used len is_front is_part =
           (sym (append_assoc front text (drop (used + len) old))),
     )
 
--- So the arena holds one text more.
+-- So the arena holds one more text, and `ends` has where it ends.
 pub one_more : Concat → (texts : List (Bor (List ℕ))) (count used len : ℕ)
     (old now part ends : List ℕ) (d : Bor (List ℕ)) →
     count < length texts → count < length ends → HoldsFirst texts count used old now ends →
