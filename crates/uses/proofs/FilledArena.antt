@@ -1,6 +1,8 @@
 -- The loop of `fill_arena` (src/arena.rt), which writes the encodings of texts to an arena one
 -- after another. It begins with no text (`none_yet`), and each round writes one more (`one_more`).
--- If the next one does not fit, the error has how many bytes are missing (`next_missing`).
+-- If the next one does not fit, the error has how many bytes are missing (`next_missing`). `old` is
+-- the arena before the loop, and `now` the arena with `count` texts in its first `used` bytes. The
+-- next call writes to the rest of `now`, which then is `part`.
 use Rattle.std.proofs.Common.{◌≡◌, ℕ, ◌+◌, ◌-◌, ◌<◌, ◌≤◌, List, [], ◌++◌, Bor, refl, sym, ◌∙◌, ap, length, get_or, take, drop, slice_range, slice_set, length-append, append-nil, append_assoc, arith}
 use borrow.Rule.Slice.PartMut.{put_mid}
 use Rattle.std.proofs.Math.Nat.{lt_of_not-le}
