@@ -1,7 +1,7 @@
 -- Text that is read piece by piece, for `append_piece` of src/pieces.rt. It calls `decode_strict`
 -- of `cesu8_stream`, whose contract is `ConvertsPiece`: a character has at most 4 bytes in the
--- output. `old` and `new` are the buffer before and after that call, `before` and `after` the whole
--- text.
+-- output. `old` and `new` are the buffer before and after that call, and `before` and `after` the
+-- argument `text` before and after `append_piece`.
 use Rattle.std.proofs.Common.{◌≡◌, ℕ, ◌+◌, ◌-◌, ◌≤◌, List, [], ◌∷◌, ◌++◌, refl, sym, ap, ◌∙◌, arith, length, take, drop, replicate, length-append, length-drop}
 use Rattle.std.proofs.Math.Seq.{take-append-add, take-append_seam}
 use Rattle.std.proofs.lemmas.List.{take-append-drop, take-append-le, take-take, take_at, take_all, take_rest, drop_all}
