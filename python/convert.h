@@ -17,6 +17,8 @@ enum {
 // Longer inputs are rejected, so that four times their length does not overflow.
 static const size_t MOST = PY_SSIZE_T_MAX / 4;
 
+// The types of the library's calls: those that only return a number, those that write a result, and
+// those that also return how much of the input they read.
 typedef struct cesu8_answer tells(const uint8_t *, size_t);
 typedef struct cesu8_answer writes(const uint8_t *, size_t, uint8_t *, size_t);
 typedef struct cesu8_progress streams(const uint8_t *, size_t, uint8_t *, size_t);
@@ -201,6 +203,8 @@ static PyObject *error_at(int is_mutf8, PyObject *data, Py_ssize_t place, Py_ssi
 
 // Replaces the first byte of `left` as one of Python's error handlers does: writes at most four bytes
 // to the output, and advances both. Returns 0 if the handler would raise, or is not one of Python's.
+// `surrogateescape` writes U+DC00 plus the byte, and `surrogatepass` copies an encoded surrogate. A
+// surrogate has three bytes.
 static int replace(const char *errors, struct input *left, uint8_t **output)
 {
     uint8_t byte = *left->bytes;
@@ -225,7 +229,8 @@ static int replace(const char *errors, struct input *left, uint8_t **output)
 }
 
 // Decodes a part up to the first byte for which `replace` returns 0, and sets `place` to its offset.
-// For `strict` the text is empty, since an exception follows.
+// For `strict` the text is empty, since an exception follows. The handlers whose names begin with
+// "surr" write surrogates.
 static PyObject *front(const struct part *part, const char *errors, Py_ssize_t *place)
 {
     struct input left = between(part->data, part->start, part->stop);

@@ -105,7 +105,7 @@ static int cut_out(PyObject *row, Py_ssize_t start, Py_ssize_t stop, struct part
 }
 
 // Sets `string` to the bytes of the string whose count is at offset `start`. Returns 0 with an
-// exception.
+// exception. If the count itself is cut off, `length` remains `left`, which is too long.
 static int cut_string(PyObject *row, Py_ssize_t start, struct part *string)
 {
     struct part count;

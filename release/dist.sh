@@ -63,6 +63,8 @@ cross_name=cesu8-$version-aarch64-linux
 cross_library=$scratch/aarch64
 has_cross=''
 
+# The first of these sets `program` and defines `build`, which builds it. The second defines
+# `has_python_header`, and the third `can_cross` and what else is for aarch64.
 # shellcheck source=tests/program.sh
 source "$top/tests/program.sh"
 # shellcheck source=tests/python_header.sh

@@ -70,6 +70,7 @@ RAW_STRING = re.compile(r'b?r(#*)"')
 STRING = re.compile(r'b?"(?:\\.|[^"\\])*"', re.S)
 CHARACTER = re.compile(r"b?'(?:\\(?:x[0-9A-Fa-f]{2}|u\{[0-9A-Fa-f]+\}|.)|[^'\\\n])'")
 VECTOR = r"\b(?:Simd|Mask|u8x\d+)\b"
+# The doc comment at the start of a file, and blank lines.
 HEAD = re.compile(r"(?:[ \t]*//![^\n]*\n|[ \t]*\n)*")
 
 
@@ -574,7 +575,7 @@ class Eraser:
         is_over_bits = re.search(r"\b(\w+) &= \1 - 1;", "".join(body))
         return "loop" if is_loop and "return" not in body and not is_over_bits else "writer"
 
-    # Both.
+    # Both steps, and what follows them.
 
     def erase(self, source, crate="simd_cesu8", depth=1, module="calls"):
         """Returns a file of a crate as Rust: a module with `depth` modules around it."""

@@ -1,5 +1,6 @@
 #!/usr/bin/env bash
-# Makes the Rust crate, and the one that stands for simd_cesu8 in a patch: rust/make.sh FOLDER
+# Makes the Rust crate, and the one that stands for simd_cesu8 in a patch:
+#   rust/make.sh FOLDER
 # FOLDER gets a folder for each of these packages, with its version in the name. They need nothing
 # else. The codec in the first is the source in crates without its contracts (erase.py); the rest is
 # rust/crate.

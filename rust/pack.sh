@@ -1,9 +1,9 @@
 #!/usr/bin/env bash
 # Packs the Rust crate of a release, and the one that stands for simd_cesu8 in a patch:
-# SOURCE_DATE_EPOCH=SECONDS rust/pack.sh RELEASE FOLDER RELEASE is the folder that the archive of
-# dist.sh holds; its BUILT-FROM goes into the crates. FOLDER gets cesu8_rattle-VERSION.crate and
-# simd_cesu8-1.2.0.crate, and their names are printed. A .crate is an archive as cargo makes it,
-# with one folder. Two runs give the same bytes.
+#   SOURCE_DATE_EPOCH=SECONDS rust/pack.sh RELEASE FOLDER
+# RELEASE is the folder that the archive of dist.sh holds; its BUILT-FROM goes into the crates.
+# FOLDER gets cesu8_rattle-VERSION.crate and simd_cesu8-1.2.0.crate, and their names are printed. A
+# .crate is an archive as cargo makes it, with one folder. Two runs give the same bytes.
 #
 # It needs python3, GNU tar, gzip, bash, find and the core utilities, but no Rust.
 set -euo pipefail

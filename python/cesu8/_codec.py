@@ -17,7 +17,8 @@ except ImportError as error:
     ) from error
 
 _SURROGATES = re.compile("[\ud800-\udfff]+")
-# Python's own encoders pass surrogates that `surrogateescape` can't escape to it separately.
+# With `surrogateescape`, Python's own encoders first escape what they can at the start of a run,
+# and then call the handler for the rest of it.
 _ESCAPED_OR_SURROGATES = re.compile("[\udc80-\udcff]+|[\ud800-\udfff]+")
 
 _ENCODE = {"cesu-8": _native.cesu_8_encode, "mutf-8": _native.mutf_8_encode}

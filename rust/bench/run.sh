@@ -1,7 +1,8 @@
 #!/usr/bin/env bash
-# Times the Rust crate beside shared objects with the same calls of another codec: rust/bench/run.sh
-# [--cpu x86-64-v3] [--rounds N] FILE.so.. bench/README.md tells how such objects are built. Run it
-# on a quiet processor: `taskset -c 3 rust/bench/run.sh ..`.
+# Times the Rust crate beside shared objects with the calls of other codecs:
+#   rust/bench/run.sh [--cpu x86-64-v3] [--rounds N] FILE.so..
+# bench/README.md says how such objects are built, and src/main.rs what is printed. Run it on a
+# quiet processor: `taskset -c 3 rust/bench/run.sh ..`.
 set -euo pipefail
 unset CDPATH
 export LC_ALL=C

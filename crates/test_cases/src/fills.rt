@@ -3,7 +3,7 @@
 use std::alloc::{AllocError, Global};
 
 /// Characters of each width, of which some are valid in one encoding only. The last fill mixes
-/// three widths, so that the borders of windows and blocks fall on each of its bytes.
+/// three widths, so that blocks and windows end at different characters of it.
 pub const FILLS: [&[u8]; 6] = [
     b"a",
     b"\xC3\xA9",

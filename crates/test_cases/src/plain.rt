@@ -117,6 +117,7 @@ pub fn read(alloc: Global, flavor: Flavor, bytes: &[u8]) -> Result<Reading, Allo
     let mut text = String::new(alloc);
     let mut damaged = 0usize;
     let mut valid = bytes.len();
+    // How many bytes of the last character are still to be skipped.
     let mut inside = 0usize;
     for place in 0..bytes.len() {
         if inside > 0 {

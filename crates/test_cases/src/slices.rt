@@ -21,7 +21,7 @@ pub fn buffer(alloc: Global, len: usize) -> Result<Vec<u8>, AllocError> {
     Ok(buf)
 }
 
-/// Whether a buffer begins with these bytes, and its rest is unchanged since before the call.
+/// Whether a buffer that `buffer` made begins with these bytes, and its other bytes are unchanged.
 pub fn holds(buf: &[u8], front: &[u8]) -> bool {
     match buf.split_at_checked(front.len()) {
         Some((written, rest)) => written == front && rest.iter().all(|byte| *byte == FILLER),

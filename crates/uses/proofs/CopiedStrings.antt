@@ -1,4 +1,6 @@
--- What has been copied of a file of strings, and what is left of it, for `append_strings`.
+-- What has been copied of a file of strings, and what is left of it, for `append_strings` of
+-- src/string_file.rt. The form of a text (`java_form`) is the count of its MUTF-8, in two bytes,
+-- and then the MUTF-8.
 use Rattle.std.proofs.Common.{◌≡◌, ℕ, ◌+◌, ◌*◌, ◌≤◌, List, [], ◌∷◌, ◌++◌, length, ap, ◌∙◌, arith, append-nil, append_assoc, length-append}
 use Rattle.std.specs.List.{flat_map}
 use Rattle.std.proofs.lemmas.Grind.{flat_map-append}
@@ -18,7 +20,7 @@ pub record CopiedSoFar (source rest before now : List ℕ) (count : ℕ) : Type 
   pub counted : count ≡ length texts
   pub left : 2 * count + length rest ≤ length source
 
--- A step of the loop: one form more was read and appended.
+-- A step of the loop: one more form was read and appended.
 pub one_copied : Bounds → OneMore → {source rest after before now new text : List ℕ} {count : ℕ} →
     CopiedSoFar source rest before now count → BeginsWithForm rest text after →
     new ≡ now ++ java_form text → CopiedSoFar source after before new (count + 1)

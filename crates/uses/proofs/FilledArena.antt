@@ -1,6 +1,8 @@
 -- The loop of `fill_arena` (src/arena.rt), which writes the encodings of texts to an arena one
 -- after another. It begins with no text (`none_yet`), and each round writes one more (`one_more`).
--- If the next one does not fit, the error has how many bytes are missing (`next_missing`).
+-- If the next one does not fit, the error has how many bytes are missing (`next_missing`). `old` is
+-- the arena before the loop, and `now` the arena with `count` texts in its first `used` bytes. The
+-- next call writes to the rest of `now`, which then is `part`.
 use Rattle.std.proofs.Common.{◌≡◌, ℕ, ◌+◌, ◌-◌, ◌<◌, ◌≤◌, List, [], ◌++◌, Bor, refl, sym, ◌∙◌, ap, length, get_or, take, drop, slice_range, slice_set, length-append, append-nil, append_assoc, arith}
 use borrow.Rule.Slice.PartMut.{put_mid}
 use Rattle.std.proofs.Math.Nat.{lt_of_not-le}
@@ -22,7 +24,7 @@ none_yet texts arena ends = record {
   ends_are = λ i before. absurd (omega (arith, before));
 }
 
--- The encodings of one text more are one encoding more.
+-- With one more text, one more encoding follows the others.
 first_encoded_next : Concat → (texts : List (Bor (List ℕ))) (count : ℕ) (d : Bor (List ℕ)) →
     count < length texts →
     first_encoded texts (count + 1) ≡ first_encoded texts count ++ encoded (get_or texts count d)
@@ -59,7 +61,7 @@ written_next front text old now part used len is_front is_part =
           (sym (append_assoc front text (drop (used + len) old))),
     )
 
--- So the arena holds one text more.
+-- So the arena holds one more text, and `ends` has where it ends.
 pub one_more : Concat → (texts : List (Bor (List ℕ))) (count used len : ℕ)
     (old now part ends : List ℕ) (d : Bor (List ℕ)) →
     count < length texts → count < length ends → HoldsFirst texts count used old now ends →

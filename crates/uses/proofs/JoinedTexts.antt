@@ -1,4 +1,5 @@
--- The encoding of joined texts.
+-- The encoding of joined texts, for `append_all` and `encoded_len` of src/many_texts.rt, and for
+-- `fill_arena` of src/arena.rt.
 use Rattle.std.proofs.Common.{◌≡◌, ℕ, ◌+◌, ◌<◌, List, [], ◌∷◌, ◌++◌, Bor, refl, length, get_or, take, arith}
 use Rattle.std.specs.List.{flat_map}
 use Rattle.std.specs.Str.{chars}
@@ -19,7 +20,8 @@ encoding-joined concat [] = refl
 encoding-joined concat (text ∷ texts) =
     rw (concat Cesu8 (chars text.now) (joined texts), encoding-joined concat texts) refl
 
--- The encodings of one text more are one encoding more.
+-- With one more text, one more encoding follows the others. `d` is what `get_or` returns outside
+-- the list, and `i` is inside.
 pub encoded_more : (texts : List (Bor (List ℕ))) (i : ℕ) (d : Bor (List ℕ)) → i < length texts →
     flat_map encoded (take (i + 1) texts)
     ≡ flat_map encoded (take i texts) ++ encoded (get_or texts i d)

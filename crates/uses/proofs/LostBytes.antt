@@ -1,4 +1,5 @@
--- A log loses bytes exactly when it is no encoding, for `repair_log`.
+-- A log loses bytes exactly when it is no encoding, for `repair_log`. A cutting divides the log
+-- into characters and replaced bytes, and its cost is the number of replaced bytes.
 use Rattle.std.proofs.Common.{◌≡◌, ℕ, List, [], ◌∷◌, ◌++◌, map, refl, sym, ap, ◌∙◌, subst, arith}
 use Rattle.simd_cesu8.specs.Text.{IsText}
 use Rattle.simd_cesu8.specs.Encoding.{Flavor, Cesu8, encoding}

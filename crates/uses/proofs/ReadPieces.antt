@@ -1,4 +1,7 @@
--- Text that is read piece by piece, for `append_piece`.
+-- Text that is read piece by piece, for `append_piece` of src/pieces.rt. It calls `decode_strict`
+-- of `cesu8_stream`, whose contract is `ConvertsPiece`: a character has at most 4 bytes in the
+-- output. `old` and `new` are the buffer before and after that call, and `before` and `after` the
+-- argument `text` before and after `append_piece`.
 use Rattle.std.proofs.Common.{◌≡◌, ℕ, ◌+◌, ◌-◌, ◌≤◌, List, [], ◌∷◌, ◌++◌, refl, sym, ap, ◌∙◌, arith, length, take, drop, replicate, length-append, length-drop}
 use Rattle.std.proofs.Math.Seq.{take-append-add, take-append_seam}
 use Rattle.std.proofs.lemmas.List.{take-append-drop, take-append-le, take-take, take_at, take_all, take_rest, drop_all}
@@ -16,7 +19,7 @@ use Rattle.cesu8_stream.specs.declared.progress.State.{State}
 use Rattle.cesu8_stream.specs.declared.progress.State.TheVariants.{InputEmpty, Incomplete, OutputFull, Malformed}
 use Rattle.uses.specs.Pieces.{Moves, Says}
 
--- A text and a character more are a text.
+-- A text and one more character are a text.
 one_more_is_text : (text : List ℕ) (c : ℕ) → IsText text → IsScalarValue c → IsText (text ++ c ∷ [])
 one_more_is_text [] c is_text scalar = (scalar, tt)
 one_more_is_text (d ∷ text) c is_text scalar = (is_text.0, one_more_is_text text c is_text.1 scalar)
@@ -44,7 +47,8 @@ next_fits bounds concat bytes old new read written c same moves begins =
     let written_is = moves.2.0 in
     omega (arith, length-append (take read bytes) next)
 
--- What the state says of the bytes that the call did not read.
+-- The state says what the bytes are that the call did not read. It is not `OutputFull`, since the
+-- buffer is as long as the bytes.
 pub left_says : Bounds → Concat → (bytes rest old new : List ℕ) (progress : Progress) →
     ConvertsPiece (encoding Cesu8) utf8 4 bytes progress old new → length old ≡ length bytes → rest ≡ drop progress.read bytes →
     Says progress.state rest
@@ -104,7 +108,8 @@ written_after start end len front new other more long inside fits =
     ∙ ap (λ n. take n (front ++ (new ++ other))) place ∙ take-append-add front (new ++ other) end
     ∙ ap (λ bs. front ++ bs) (take-append-le end new other inside)
 
--- The bytes after the first n, moved to the start.
+-- If the bytes after the first n are moved to the start, and the others are truncated, only they
+-- are left.
 pub rest_moved : (bytes new : List ℕ) (n len end : ℕ) → new ≡ copy_within bytes n end 0 → end ≡ length bytes →
     len ≡ length bytes → n ≤ length bytes → take (len - n) new ≡ drop n bytes
 rest_moved bytes new n len end is end_is len_is within =

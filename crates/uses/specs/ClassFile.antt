@@ -8,8 +8,8 @@ use Rattle.java_text.specs.Fault as java
 use Rattle.uses.specs.declared.class_file.ConstantFault.{ConstantFault}
 use Rattle.uses.specs.declared.class_file.ConstantFault.TheVariants.{OtherTag, Text}
 
--- The bytes are a constant of the text, and then rest: the tag 1, the count of the bytes of MUTF-8
--- in two bytes, and those bytes.
+-- The bytes are a constant of the text, followed by `rest`. The constant is the tag 1, the count of
+-- the bytes of MUTF-8 in two bytes, and those bytes.
 -- (Java Virtual Machine Specification, "The CONSTANT_Utf8_info Structure")
 pub record BeginsWithConstant (bytes text rest : List ℕ) : Type 0 where
   pub scalars : IsText text

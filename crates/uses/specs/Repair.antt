@@ -6,7 +6,7 @@ use Rattle.simd_cesu8.specs.Reading.{reading}
 use Rattle.simd_cesu8.specs.Cutting.{Piece, IsCutting, text_of, cost}
 
 -- Each whole record of the log is in the text, between the readings of what precedes and follows
--- it.
+-- it. A record is any nonempty text whose CESU-8 is a part of the log.
 abbrev pub KeepsRecords : List ℕ → List ℕ → Type 0
 KeepsRecords log text = (before whole after : List ℕ) → IsText whole → whole ≢ [] →
     log ≡ before ++ encoding Cesu8 whole ++ after →

@@ -1,4 +1,4 @@
-//! A store whose keys order as UTF-16 does.
+//! A store whose keys are in the order of UTF-16.
 
 ghost use Rattle.std.specs.Prelude.{◌≡◌, ◌≢◌, ℕ, List, IfOk, OnOk, OnErr};
 ghost use Rattle.std.specs.BTreeMap.{IsUnchanged};

@@ -1,4 +1,4 @@
-//! Keys by themselves.
+//! Keys that have no zero byte, so that one may end them.
 
 ghost use Rattle.std.specs.Prelude.{◌≡◌, ◌≢◌, All, IfOk};
 ghost use Rattle.std.specs.Str.{chars};

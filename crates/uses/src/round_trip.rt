@@ -65,7 +65,7 @@ pub fn encode_and_read(alloc: Global, text: &str) -> Result<String, AllocError>
 
 /// Writes a text as a Java string with other bytes after it, and reads it: returns the text.
 ///
-/// It returns `TooLong` only if the text has no form.
+/// It returns `TooLong` only if the text has no form: if its MUTF-8 has more than 65,535 bytes.
 ///
 /// ```rust
 /// let back = uses::write_and_read(alloc, "a\0", b"\xFF")?;

@@ -32,7 +32,7 @@ pub fn copy_strings(alloc: Global, source: &[u8], target: &mut Vec<u8>) -> Resul
     copied
 }
 
-/// Like `copy_strings`, but after an error the target has the strings before it.
+/// Like `copy_strings`, but if it returns an error, the strings that it appended before remain.
 fn append_strings(alloc: Global, source: &[u8], target: &mut Vec<u8>) -> Result<usize, ReadFault>
     ensures copied { IfOk result (λ count.
         CopiesStrings count source.now target.old.items target.new.items) }

@@ -43,7 +43,7 @@ fn read_all(alloc: Global, pool: &Pool, digest: &mut Digest) {
     }
 }
 
-/// Makes the strings.
+/// Makes the strings. Between `before` and `after` are the letters that each round changes.
 fn strings(alloc: Global, random: &mut Random) -> Result<Pool, AllocError> {
     let mut pool = Pool::new(alloc);
     for _ in 0..STRINGS {

@@ -54,7 +54,8 @@ fn convert(alloc: Global, bytes: &[u8], digest: &mut Digest) -> Result<(), Alloc
     Ok(())
 }
 
-/// Makes a dump of lines of some 80 to 340 bytes.
+/// Makes a dump of lines of some 80 to 340 bytes. Between `before` and `after` are the letters that
+/// each round changes.
 fn dump(alloc: Global, random: &mut Random, script: Script) -> Result<Pool, AllocError> {
     let mut pool = Pool::new(alloc);
     for _ in 0..LINES {

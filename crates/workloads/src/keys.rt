@@ -39,7 +39,7 @@ pub fn run(
     Ok(())
 }
 
-/// Decodes `SORTED` keys from this one on.
+/// Decodes `SORTED` keys, from the index `first` on.
 fn read(alloc: Global, pool: &Pool, first: usize) -> Result<Vec<CowText<'_>>, AllocError> {
     let mut texts = Vec::new(alloc);
     for place in 0..SORTED {
@@ -84,7 +84,8 @@ fn decode_to_buffer(pool: &Pool, digest: &mut Digest) {
     }
 }
 
-/// Makes the keys, of some 6 to 116 bytes, mostly 20 to 70.
+/// Makes the keys, of some 6 to 116 bytes, mostly 20 to 70. Between `before` and `after` are the
+/// letters that each round changes.
 fn keys(alloc: Global, random: &mut Random) -> Result<Pool, AllocError> {
     let mut pool = Pool::new(alloc);
     for _ in 0..KEYS {

@@ -44,7 +44,8 @@ fn copy_all(alloc: Global, pool: &Pool, digest: &mut Digest) -> Result<(), Alloc
     Ok(())
 }
 
-/// Makes the strings, of 1 to 33 KB.
+/// Makes the strings, of 1 to 33 KB. Between `before` and `after` are the letters that each round
+/// changes.
 fn strings(alloc: Global, random: &mut Random) -> Result<Pool, AllocError> {
     let mut pool = Pool::new(alloc);
     for _ in 0..STRINGS {

@@ -33,7 +33,8 @@ pub fn run(
     Ok(())
 }
 
-/// Decodes all strings, and encodes them again. One value in four loses its first character.
+/// Decodes all strings, and encodes them again. One value in four loses its first character: the
+/// values have odd indices, since each follows its name.
 fn rewrite(alloc: Global, pool: &Pool, digest: &mut Digest) -> Result<(), AllocError> {
     let mut written = Vec::new(alloc);
     let mut rest = pool.bytes();

@@ -1,12 +1,13 @@
-//! Times the crate beside shared objects with the same calls of another codec:
+//! Times the crate beside shared objects with the calls of other codecs, for run.sh:
 //!
 //!     bench ROUNDS FILE.so..
 //!
 //! Each row has an input set, a call, and for each codec the nanoseconds of one call: the least of
-//! the rounds, in which the codecs take turns on many different inputs. Last come the families: the
-//! median of their rows' quotients, the faster of the other codecs by the crate. All are called
-//! through the same interface of C, with no copy of the result. bench/measured.h declares that
-//! interface, and says what each call must do. In the objects the names begin with `cesu8_static_`.
+//! the rounds, in which the codecs take turns on many different inputs. Last come the families of
+//! rows, each with the median, the least and the greatest quotient: the time of the fastest other
+//! codec divided by the crate's. All codecs are called through one interface of C, with no copy of
+//! the result. bench/measured.h declares that interface, and says what each call must do. In the
+//! objects the names begin with `cesu8_static_`.
 
 use std::borrow::Cow;
 use std::collections::BTreeMap;
@@ -114,10 +115,10 @@ impl Random {
         char::from_u32(scalar as u32).unwrap()
     }
 
-    /// A text of a kind with so many bytes.
+    /// A text of this kind, of `len` bytes.
     fn text(&mut self, kind: &str, len: usize) -> String {
         let mut text = String::new();
-        // Where the one character stands that changes.
+        // In texts of the kinds "emoji" and "null", the one character that changes begins here.
         let at = self.below(len.saturating_sub(3) as u64) as usize;
         let mut has_changed = false;
         while text.len() < len {

@@ -59,7 +59,7 @@ impl error::Error for TooLong {}
 
 /// Appends a text as `DataOutput.writeUTF` writes it.
 ///
-/// It requests memory once if the buffer's capacity is too small.
+/// It allocates once if the buffer's capacity is too small.
 ///
 /// # Errors
 ///

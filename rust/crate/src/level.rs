@@ -10,11 +10,13 @@
 //! The functions of this module are the calls of the crate at the level that is chosen: `by_level!`
 //! defines each.
 //!
-//! Four macros tell a copy of the codec its level. `at_level!` defines a function with the features of
-//! the level and calls it, and `call_at_level!` one that others call; `table!` defines a static, of
-//! which two levels have one; `block!` is the vector of 32 bytes. A copy whose functions are not
-//! called leaves no machine code. What passes no vector is always inlined in v3 and NEON, and in v2
-//! if the compiler finds it worth its code.
+//! Four macros depend on the level of a copy of the codec. `at_level!` defines a function with the
+//! features of the level and calls it, and `call_at_level!` defines one that other modules call.
+//! `table!` defines a static, which v2 imports from v3, and `block!` is the vector of 32 bytes. A
+//! copy whose functions are not called leaves no machine code.
+//!
+//! `erase.py` marks some functions in `at_level!` as `reader`, `writer` or `loop`. NEON always
+//! inlines these, and v3 all but those with `loop`. In v2 the compiler decides.
 
 #[cfg(all(target_arch = "x86_64", not(any(miri, cesu8_level = "plain"))))]
 pub(crate) mod x86;
@@ -45,7 +47,7 @@ macro_rules! by_level {
     };
 }
 
-// Where there is one level, `by_level!` needs no types.
+// If there is only one level, `by_level!` needs no types.
 #[allow(unused_imports)]
 use alloc::{borrow::Cow, vec::Vec};
 #[allow(unused_imports)]
@@ -54,7 +56,8 @@ use core::cmp::Ordering;
 #[allow(unused_imports)]
 use crate::{DecodingError, SliceError};
 
-/// Defines functions by the level that is chosen: those of a module there, or of none.
+/// Defines functions that call those of the chosen level, in its module of this name if one is
+/// given.
 macro_rules! chosen {
     ($($module:ident)? { $($name:ident($($argument:ident: $type:ty),*) -> $result:ty;)* }) => {
         chosen! { @ ($($module::)?) $($name($($argument: $type),*) -> $result;)* }

@@ -45,7 +45,7 @@ pub fn encode(value: &str) -> Cow<'_, [u8]> {
 
 /// Appends the MUTF-8 of a string to a buffer.
 ///
-/// It requests memory once if the buffer's capacity is too small.
+/// It allocates once if the buffer's capacity is too small.
 ///
 /// ```
 /// let mut buf = b"id=".to_vec();

@@ -1,8 +1,8 @@
 //! The panics, each one function for all processor levels. All but `capacity_overflow` are for
 //! tests before `unsafe` code, which the proved code never fails.
-#![allow(dead_code)] // The plain form has the first alone.
+#![allow(dead_code)] // The level `plain` uses only the first.
 
-/// The length of a text fits no `usize`. If memory is refused, the process has ended before this.
+/// The length of a text does not fit `usize`. If an allocation fails, the process ends before this.
 #[cold]
 #[inline(never)]
 pub(crate) fn capacity_overflow() -> ! {

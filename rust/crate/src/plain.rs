@@ -1,6 +1,6 @@
 //! The calls without vectors, in safe Rust, for machines that no other level is for.
 //!
-//! It goes from piece to piece: UTF-8 of characters that stay, a character that the encoding writes
+//! It goes from piece to piece: UTF-8 of unchanged characters, a character that the encoding writes
 //! otherwise, and bytes in no encoded character. It is written by hand and tested, and no part of
 //! it is proved.
 #![forbid(unsafe_code)]
@@ -14,7 +14,7 @@ use crate::panics::capacity_overflow;
 use crate::{DecodingError, SliceError, utf8};
 
 // The functions take the encoding as an argument, so that a program has one copy of each. Those that
-// are not inlined would else be copied into the calls of both.
+// are not inlined would otherwise be copied into the calls of both.
 
 /// The bytes of a surrogate pair.
 const PAIR: usize = 6;
@@ -81,7 +81,7 @@ fn encode_by(is_mutf8: bool, text: &str, write: &mut dyn FnMut(&[u8])) {
     }
 }
 
-/// What follows in bytes that are decoded.
+/// The next piece of bytes that are decoded.
 enum Piece<'a> {
     /// Characters that are the same in UTF-8.
     Same(&'a str),
@@ -94,9 +94,9 @@ enum Piece<'a> {
 /// The pieces of bytes.
 struct Pieces<'a> {
     is_mutf8: bool,
-    /// What is known to be UTF-8.
+    /// The next bytes that are known to be UTF-8. The encoding may lack some of their characters.
     text: &'a str,
-    /// What follows it.
+    /// The bytes after these.
     rest: &'a [u8],
 }
 
@@ -213,7 +213,7 @@ fn build(is_mutf8: bool, bytes: &[u8], len: usize) -> String {
     text
 }
 
-/// Writes the decoded text, which has this length, to the front of a slice.
+/// Writes the decoded text, whose length is `needed`, to the start of a slice.
 fn put_text(
     is_mutf8: bool,
     bytes: &[u8],
@@ -372,8 +372,8 @@ pub fn utf16_len(text: &str) -> usize {
 }
 
 pub fn compare_as_utf16(text: &str, other: &str) -> Ordering {
-    // In UTF-16 the characters of four bytes are below U+E000, whose lead byte is EE, and what
-    // follows.
+    // In UTF-16 the characters of four bytes are surrogates, which are below U+E000 to U+FFFF. In
+    // UTF-8 these have the lead bytes EE and EF, whose rank is therefore above that of F0 to F4.
     let rank = |byte: u8| if matches!(byte, 0xEE | 0xEF) { byte + 0x10 } else { byte };
     let differing = text.bytes().zip(other.bytes()).find(|(byte, other)| byte != other);
     match differing {

@@ -25,13 +25,16 @@ pub(crate) fn ascii<const WITHOUT_NULL: bool>(bytes: &[u8]) -> Option<&str> {
     Some(unsafe { core::str::from_utf8_unchecked(bytes) })
 }
 
-/// Returns what a lenient call returns for few bytes, if they are ASCII or the test for UTF-8 alone
-/// decides that: if a strict call would return them unchanged or reject them. It rejects F0 and above.
-/// What it changes begins with ED, or for MUTF-8, `WITH_NULL`, also with C0; at most seven bytes are
-/// searched for these, for which a level takes longer than the test.
+/// Returns what a lenient call returns for at most 64 bytes, if they are ASCII or if the test for
+/// UTF-8 alone decides it. Otherwise it returns `None`, and a level decides.
+///
+/// The test decides if a strict call would return the bytes unchanged or reject them. It rejects a
+/// byte from F0 on. It changes only what begins with ED, or, in MUTF-8 (`WITH_NULL`), with C0. Only
+/// up to seven bytes are searched for these two, since for so few a level takes longer than the
+/// test.
 #[cfg_attr(not(debug_assertions), inline(always))]
 pub(crate) fn lenient<const WITH_NULL: bool>(bytes: &[u8]) -> Option<Result<&str, DecodingError>> {
-    // SAFETY: it is called of ASCII, and of bytes that are tested.
+    // SAFETY: it is called for ASCII, and for bytes that `is_utf8` has tested.
     let text = |bytes| Some(Ok(unsafe { core::str::from_utf8_unchecked(bytes) }));
     if bytes.len() < 8 {
         let word = word_of_few(bytes);
@@ -53,7 +56,8 @@ pub(crate) fn lenient<const WITH_NULL: bool>(bytes: &[u8]) -> Option<Result<&str
     if utf8::is_utf8(bytes) { text(bytes) } else { Some(Err(DecodingError(()))) }
 }
 
-/// Returns a word of the bytes, which are at most seven. Each is there, and some are twice.
+/// Returns a word that contains each of at most seven bytes, some of them twice. If there are fewer
+/// than four, its high half is 0.
 #[inline]
 fn word_of_few(bytes: &[u8]) -> u64 {
     let half = |at: usize| {
@@ -77,7 +81,7 @@ fn any_zero(word: u64) -> bool {
 }
 
 /// Copies the bytes to a slice if they are few and all ASCII. With `WITHOUT_NULL` no byte may be 00.
-/// It is not inlined, so that each call to a slice has no copy of it.
+/// It is not inlined, so that not every call to a slice has a copy of it.
 #[inline(never)]
 pub(crate) fn copy_ascii<const WITHOUT_NULL: bool>(
     bytes: &[u8],
@@ -86,8 +90,8 @@ pub(crate) fn copy_ascii<const WITHOUT_NULL: bool>(
     ascii::<WITHOUT_NULL>(bytes).map(|text| copy(text.as_bytes(), buf))
 }
 
-/// Writes what a lenient call reads in the bytes: UTF-8 as it is, and else what `strict` writes. UTF-8
-/// that `strict` accepts is the text that it writes, so the test for UTF-8 may come after it.
+/// Writes what a lenient call decodes: UTF-8 unchanged, and otherwise what `strict` writes. If
+/// `strict` accepts UTF-8, it writes it unchanged, so the test for UTF-8 may come after it.
 pub(crate) fn lenient_to_slice(
     bytes: &[u8],
     buf: &mut [u8],
@@ -99,7 +103,8 @@ pub(crate) fn lenient_to_slice(
     }
 }
 
-/// The same for a call that replaces what is ill-formed: `lossy` writes what is neither.
+/// Like `lenient_to_slice`, for a call that replaces what is ill-formed: if the bytes are neither
+/// UTF-8 nor the encoding, `lossy` writes their text.
 pub(crate) fn lenient_lossy_to_slice(
     bytes: &[u8],
     buf: &mut [u8],
@@ -112,22 +117,22 @@ pub(crate) fn lenient_lossy_to_slice(
     }
 }
 
-/// Copies the bytes to a slice, if it has room for them.
+/// Copies the bytes to a slice, if they fit.
 pub(crate) fn copy(bytes: &[u8], buf: &mut [u8]) -> Result<usize, SliceError> {
     let needed = bytes.len();
     buf.get_mut(..needed).ok_or(SliceError::TooShort { needed })?.copy_from_slice(bytes);
     Ok(needed)
 }
 
-/// Returns whether a text is short, and no byte of it changes: none leads four bytes, or with
-/// `WITHOUT_NULL` is 00.
+/// Returns whether a text has at most 64 bytes and the encoding changes none of them: none leads
+/// four bytes, or, with `WITHOUT_NULL`, is 00.
 #[inline]
 pub(crate) fn is_unchanged<const WITHOUT_NULL: bool>(text: &str) -> bool {
     text.len() <= SHORT && !any_in_short::<LEAD_OF_FOUR, WITHOUT_NULL>(text.as_bytes())
 }
 
-/// Returns whether one of at most 64 bytes is `LEAST`, which is 80 or F0, or more, or with
-/// `OR_NULL` is 00.
+/// Returns whether one of at most 64 bytes is at least `LEAST`, which is 80 or F0, or, with
+/// `OR_NULL`, is 00.
 #[inline]
 fn any_in_short<const LEAST: u8, const OR_NULL: bool>(bytes: &[u8]) -> bool {
     #[cfg(all(
@@ -140,11 +145,11 @@ fn any_in_short<const LEAST: u8, const OR_NULL: bool>(bytes: &[u8]) -> bool {
     any_in_words::<LEAST, OR_NULL>(bytes)
 }
 
-/// The same, by words of eight bytes that cover all, and may overlap.
+/// Like `any_in_short`, by words of eight bytes that cover all bytes, and may overlap.
 #[inline]
 fn any_in_words<const LEAST: u8, const OR_NULL: bool>(bytes: &[u8]) -> bool {
     let len = bytes.len();
-    // The high bit of a byte tells.
+    // Sets the high bit of each byte that is at least `LEAST`.
     let test = |word: u64| {
         let least =
             if LEAST == NON_ASCII { word } else { word & word << 1 & word << 2 & word << 3 };
@@ -157,7 +162,7 @@ fn any_in_words<const LEAST: u8, const OR_NULL: bool>(bytes: &[u8]) -> bool {
     };
     let found = match len {
         0 => 0,
-        // A text that is so short has no character of four bytes.
+        // These are from `is_unchanged`: a text that is so short has no character of four bytes.
         1..4 if LEAST == LEAD_OF_FOUR && !OR_NULL => 0,
         1..4 => test(word_of_few(bytes) | HIGH >> 7 << 32),
         4..8 => test(word_of_few(bytes)),
@@ -215,7 +220,7 @@ mod vectors {
     }
 }
 
-/// The same on aarch64.
+/// The tests by vectors on aarch64, which take 16 to 64 bytes too.
 #[cfg(all(target_arch = "aarch64", target_endian = "little", not(miri)))]
 mod vectors {
     use core::arch::aarch64::*;

@@ -1,8 +1,7 @@
-//! Each level beside a codec that reads one character after another by the standards' tables, on
-//! hostile inputs.
+//! Compares each level with a codec that reads one character after another by the standards'
+//! tables, on hostile inputs.
 //!
-//! `CESU8_INPUTS` says how many inputs. Without it they are few, so that a debug build is done
-//! soon.
+//! `CESU8_INPUTS` is the number of inputs. Without it a debug build tests few, since it is slow.
 
 use std::borrow::Cow;
 use std::string::String;
@@ -69,7 +68,7 @@ mod standard {
         char::from_u32(scalar).unwrap()
     }
 
-    /// The lossy text, how many bytes are whole encoded characters at the start.
+    /// The lossy text, and how many bytes at the start are whole encoded characters.
     pub fn decoded(is_mutf8: bool, bytes: &[u8]) -> (String, usize) {
         let (mut text, mut valid, mut rest) = (String::new(), None, bytes);
         while !rest.is_empty() {
@@ -402,7 +401,7 @@ macro_rules! level_calls {
             pub unsafe fn decode_lossy_to_slice(bytes: &[u8], buf: &mut [u8]) -> SliceResult {
                 // SAFETY: the processor has the level's features.
                 let strict = |bytes: &[u8], buf: &mut [u8]| unsafe { strict(bytes, buf) };
-                // SAFETY: as above.
+                // SAFETY: the processor has the level's features.
                 let lossy = |bytes: &[u8], buf: &mut [u8]| unsafe { lossy(bytes, buf) };
                 short::lenient_lossy_to_slice(bytes, buf, strict, lossy)
             }
@@ -488,8 +487,8 @@ fn level() {
     }
 }
 
-/// The public calls, with their fast path, of every short input of a few bytes at each offset of
-/// ASCII.
+/// Tests the public calls, which have the fast path, on up to 70 bytes of ASCII with a few other
+/// bytes at each offset.
 #[test]
 fn fast_path() {
     let odd: [&[u8]; 10] = [

@@ -1,4 +1,4 @@
-//! The test for UTF-8: that of the crate `simdutf8` if its feature is on, and else that of `core`.
+//! The test for UTF-8: that of the crate `simdutf8` if its feature is on, and otherwise `core`'s.
 
 /// Returns bytes that are UTF-8 as a text.
 #[cfg(feature = "simdutf8")]

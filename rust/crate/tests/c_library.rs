@@ -1,6 +1,6 @@
-//! The crate beside the library for C of the same commit, which is proved: `CESU8_LIBRARY` names
-//! its shared object, and `CESU8_INPUTS` says how many inputs. Without the first nothing is
-//! compared.
+//! Compares the crate with the library for C of the same commit, which is proved. `CESU8_LIBRARY`
+//! names its shared object, and `CESU8_INPUTS` is the number of inputs. Without the first nothing
+//! is compared. tests/rust.sh of the repository sets both.
 #![cfg(target_os = "linux")]
 
 use std::borrow::Cow;

@@ -25,8 +25,9 @@ fn text(text: Cow<str>) -> Outcome {
     (OK, text.into_owned().into_bytes())
 }
 
-/// What a command of the program should do, by the calls, or `None` for a command that is none of
-/// theirs.
+/// Returns what a command of the program should do, by the crate's calls, or `None` if no call is
+/// for it. `not_utf8` and `invalid` are the statuses for a text and for an encoding that is
+/// rejected.
 fn outcome(
     command: &str,
     flavor: &str,
@@ -81,8 +82,8 @@ fn cases_of_the_program() {
             continue;
         };
         let (status, _) = status_of(&format!("{}|", fields[2]));
-        // The program's status says why; the crate tells of the same inputs that they are not
-        // decoded.
+        // The program's status says why an input is rejected. The crate only says that it is, so
+        // either error has the status of the case.
         let Some((found, result)) = outcome(words[0], words[1], &input, status, status) else {
             continue;
         };
@@ -108,7 +109,7 @@ fn java_cases() {
         let is_ok = fields[2] == "0";
         match fields[0] {
             "java-read mutf8" => {
-                // The program takes one string alone.
+                // The program accepts exactly one string.
                 let read = java::read_utf(&input).ok().filter(|(_, rest)| rest.is_empty());
                 let text = read.as_ref().map(|(text, _)| text.as_bytes());
                 assert_eq!(text, is_ok.then_some(&output[..]), "{line}");

@@ -9,7 +9,7 @@ use std::thread;
 
 use simd_cesu8::{DecodingError, SliceError, java, mutf8};
 
-/// Counts the requests of a thread.
+/// Counts the allocations of a thread (`REQUESTS`), and keeps the size of the largest.
 struct Counting;
 
 thread_local! {
@@ -22,7 +22,7 @@ fn count(size: usize) {
     LARGEST.set(LARGEST.get().max(size));
 }
 
-// SAFETY: it hands on what `System` returns.
+// SAFETY: it returns what `System` returns.
 unsafe impl GlobalAlloc for Counting {
     unsafe fn alloc(&self, layout: Layout) -> *mut u8 {
         count(layout.size());
@@ -45,7 +45,7 @@ unsafe impl GlobalAlloc for Counting {
 #[global_allocator]
 static ALLOCATOR: Counting = Counting;
 
-/// Returns how many requests a call makes, and the largest of them in bytes.
+/// Returns how many allocations a call makes, and the largest of them in bytes.
 fn requests<T>(call: impl FnOnce() -> T) -> (usize, usize) {
     REQUESTS.set(0);
     LARGEST.set(0);
@@ -55,7 +55,7 @@ fn requests<T>(call: impl FnOnce() -> T) -> (usize, usize) {
     found
 }
 
-/// Lengths around the borders between the ways that the codec goes.
+/// Lengths on both sides of those at which the codec changes its strategy.
 const LENGTHS: [usize; 17] =
     [0, 1, 7, 15, 26, 31, 32, 33, 63, 64, 65, 127, 129, 255, 1025, 4097, 70_000];
 
@@ -103,8 +103,8 @@ fn allocations() {
     }
 }
 
-/// Bytes that no call decodes strictly: of so many characters, with damage at the start, in the
-/// middle or at the end.
+/// Bytes that no call decodes strictly: `len` characters, with damage at the start, in the middle
+/// or at the end.
 fn rejected(len: usize) -> Vec<Vec<u8>> {
     let damage: [&[u8]; 6] =
         [b"\xFF", b"\xED\xA0\xBD", b"\xED\xB2\x96", b"\xC1\x80", b"\xE2\x82", b"\x80"];
@@ -123,7 +123,7 @@ fn rejected(len: usize) -> Vec<Vec<u8>> {
     all
 }
 
-/// Each call that may reject its input does so before it requests memory.
+/// Each call that may reject its input rejects it before it allocates.
 #[test]
 fn rejected_without_memory() {
     let lengths = LENGTHS.into_iter().filter(|len| *len < 5000);

@@ -1,6 +1,6 @@
-//! What the codec uses of Rattle's `std::alloc`. There an allocator is an argument, and memory may
-//! be refused. Here it is the global one, and a refused request ends the process, as with every
-//! collection of Rust.
+//! What the codec uses of Rattle's `std::alloc`. There an allocator is an argument, and an
+//! allocation may fail. Here it is the global one, and an allocation that fails ends the process,
+//! as with every collection of Rust.
 
 use alloc::vec::Vec;
 use core::slice::SliceIndex;
@@ -11,23 +11,22 @@ use crate::panics::{no_capacity, range_out_of_bounds};
 #[derive(Clone, Copy, Debug)]
 pub struct Global;
 
-/// A request for memory was refused, or would exceed what an address can be. No call of this module
-/// returns it.
+/// An allocation failed, or a length does not fit `usize`. No call of this module returns it.
 #[derive(Clone, Copy, Debug, PartialEq, Eq)]
 pub struct AllocError;
 
-/// A value for which a request for memory was refused.
+/// A value for which an allocation failed.
 #[derive(Clone, Copy, Debug)]
 pub struct AllocFailed<T>(pub T);
 
-/// Returns an empty vector, after one request for this capacity. The code is long, so it is not
+/// Returns an empty vector with this capacity, after one allocation. The code is long, so it is not
 /// inlined.
 #[inline(never)]
 pub fn with_capacity(_: Global, capacity: usize) -> Result<Vec<u8>, AllocError> {
     Ok(Vec::with_capacity(capacity))
 }
 
-/// Requests capacity for so many bytes more, which grows by a factor.
+/// Reserves capacity for `more` bytes. The capacity grows by a factor, as with `Vec::push`.
 #[cfg_attr(not(debug_assertions), inline(always))]
 pub fn reserve(out: &mut Vec<u8>, more: usize) -> Result<(), AllocError> {
     out.reserve(more);
@@ -39,7 +38,7 @@ pub fn reserve(out: &mut Vec<u8>, more: usize) -> Result<(), AllocError> {
 pub trait Append {
     fn append_bytes(&mut self, bytes: &[u8]);
 
-    /// Appends a byte so many times.
+    /// Appends a byte `count` times.
     fn append_times(&mut self, byte: u8, count: usize);
 }
 
@@ -73,7 +72,7 @@ impl Append for Vec<u8> {
 }
 
 /// The part of a slice in a range, which a proof has shown to be in bounds. The index operator would
-/// have, for each use in a program, a place in the source and what tells of the range.
+/// add its source location, and a panic with the range in its message, at each use.
 pub trait Part {
     fn part<R: SliceIndex<[u8], Output = [u8]>>(&self, range: R) -> &[u8];
     fn part_mut<R: SliceIndex<[u8], Output = [u8]>>(&mut self, range: R) -> &mut [u8];

@@ -1,6 +1,6 @@
 //! The codec at one level, which is a set of processor features. `level/x86.rs` and
 //! `level/aarch64.rs` include this module by its path, once for each of their levels, after the
-//! macros that tell it the level.
+//! macros that depend on the level: `at_level!`, `call_at_level!`, `table!` and `block!`.
 //!
 //! `bytes`, `encode`, `decode` and `calls` are erased from the proved library by `erase.py`. The
 //! other modules are written by hand: `simd` and `memory` stand for parts of Rattle's standard

@@ -1,7 +1,7 @@
 //! What the codec uses of `std::simd`, on stable Rust: vectors of bytes, as vectors of the machine.
 //!
 //! Each level has its own copy of this module. `block!()` is its vector of 32 bytes: one of the
-//! machine where it has one, and else a pair of 16.
+//! machine if it has such vectors, and otherwise a pair of vectors of 16 bytes.
 
 use core::marker::PhantomData;
 use core::ops::{Add, BitAnd, BitOr, BitXor, Not, Shl, Shr, Sub};
@@ -19,7 +19,8 @@ use self::x86 as machine;
 use self::machine::Half;
 use crate::panics::vector_out_of_bounds;
 
-/// A vector of the machine, or what stands for one. A mark is a lane of all ones, or of zeros.
+/// A vector of the machine, or what stands for one. In a mask each lane has either a mark, which is
+/// all ones, or zeros.
 pub trait Vector: Copy {
     /// Loads as many bytes as it has lanes.
     ///
@@ -48,11 +49,11 @@ pub trait Vector: Copy {
     /// Marks the lanes that are equal.
     fn eq(self, other: Self) -> Self;
 
-    /// Takes each lane of 16 from as many lanes of `self`, by an index below 16; one from 128 on
-    /// gives 0.
+    /// Takes each lane from the 16 lanes of `self` that include it, by an index below 16. An index
+    /// from 128 on gives 0.
     fn look_up(self, indices: Self) -> Self;
 
-    /// Takes the lanes of `yes` where `self` has a mark, and else those of `no`.
+    /// Takes each lane of `yes` if `self` has a mark there, and otherwise that of `no`.
     fn select(self, yes: Self, no: Self) -> Self;
 
     fn shl(self, by: u32) -> Self;
@@ -83,7 +84,7 @@ pub trait Vector: Copy {
     /// Returns 16 of the lanes, from `16 * at` on.
     fn half(self, at: usize) -> Half;
 
-    /// Returns these lanes, as far as it has so many.
+    /// Returns these 32 lanes, or as many of the first as the vector has.
     fn of_halves(first: Half, second: Half) -> Self;
 
     /// Returns lanes of `self` and `second` in a row, from lane `R::BY` of the last 16 of `self`
@@ -122,7 +123,7 @@ widths! {
     64 = Pair<block!()>;
 }
 
-/// The first lanes of a vector of 16. The others mean nothing.
+/// The first lanes of a vector of 16. The others are ignored.
 #[derive(Clone, Copy)]
 pub struct Low<const N: usize>(Half);
 
@@ -130,7 +131,7 @@ pub struct Low<const N: usize>(Half);
 #[derive(Clone, Copy)]
 pub struct Pair<V>(V, V);
 
-/// Passes on what works lane by lane.
+/// Forwards the methods that work lane by lane.
 macro_rules! lane_by_lane {
     ($pair:ident; $($name:ident($($other:ident),*);)*) => {
         $(#[cfg_attr(not(debug_assertions), inline(always))]
@@ -457,9 +458,9 @@ where
         simd(unsafe { Vector::load(slice.as_ptr().add(at)) })
     }
 
-    /// Loads the lanes from `before` bytes before an offset on. The compiler leaves out a test that was
-    /// done: mostly a load at the offset itself has tested that it is in bounds, and one from further
-    /// before it that it is no less than `before`.
+    /// Loads the lanes that begin `before` bytes before an offset. The compiler leaves out the
+    /// tests that earlier loads have made: mostly one at the offset itself has tested the upper
+    /// bound, and one from further before it that the offset is at least `before`.
     #[cfg_attr(not(debug_assertions), inline(always))]
     pub fn from_slice_before(slice: &[u8], at: usize, before: usize) -> Self {
         let len = slice.len();
@@ -519,7 +520,7 @@ where
         sum
     }
 
-    /// Multiplies by weights, and adds the products by fours. The codec weighs each lane 1.
+    /// Multiplies by weights, which in the codec are 1, and adds the products in groups of four.
     #[cfg_attr(not(debug_assertions), inline(always))]
     pub fn dot4(self, weights: Self) -> Sum {
         debug_assert!(!weights.simd_ne(Simd::splat(1)).any());
@@ -639,7 +640,7 @@ where
     }
 }
 
-/// Lanes of 32 bits, of which the codec takes the sum alone.
+/// Lanes of 32 bits, of which the codec only takes the sum.
 pub struct Sum(u32);
 
 impl Sum {
@@ -665,8 +666,8 @@ macro_rules! positions {
 }
 pub(crate) use positions;
 
-/// Where 16 lanes of a shuffle come from, those from `16 * PART` on: the vectors are parts of at
-/// most 16 lanes in a row.
+/// Where 16 lanes of a shuffle's result come from, those from `16 * PART` on. The two input vectors
+/// in a row are divided into parts of at most 16 lanes, at most four.
 struct Plan<P, const N: usize, const M: usize, const PART: usize>(PhantomData<P>);
 
 impl<P: Positions<M>, const N: usize, const M: usize, const PART: usize> Plan<P, N, M, PART> {
@@ -674,8 +675,8 @@ impl<P: Positions<M>, const N: usize, const M: usize, const PART: usize> Plan<P,
 
     const FIRST: usize = Self::position(0);
 
-    /// Where lane `i` comes from. Of 16 lanes there is one part, and the compiler evaluates the
-    /// other too.
+    /// The input lane that lane `i` of these comes from. The compiler evaluates this for `PART` 1
+    /// even if the result has only 16 lanes, hence the remainder.
     const fn position(i: usize) -> usize {
         let position = P::POSITIONS[(16 * PART + i) % M];
         assert!(position < 2 * N);
@@ -692,7 +693,7 @@ impl<P: Positions<M>, const N: usize, const M: usize, const PART: usize> Plan<P,
         is_run
     };
 
-    /// Which parts have lanes of it.
+    /// Which parts of the input the lanes come from.
     const USES: [bool; 4] = {
         let (mut uses, mut i) = ([false; 4], 0);
         while i < 16 {
@@ -702,7 +703,7 @@ impl<P: Positions<M>, const N: usize, const M: usize, const PART: usize> Plan<P,
         uses
     };
 
-    /// For each part the indices of its lanes, and 128 for those of other parts.
+    /// For each part of the input the indices to look up in it, with 128 for lanes of other parts.
     const INDICES: [[u8; 16]; 4] = {
         let (mut indices, mut i) = ([[128; 16]; 4], 0);
         while i < 16 {
@@ -742,7 +743,8 @@ where
     simd(Vector::of_halves(low, second_half_of::<P, N, M>(first, second)))
 }
 
-/// Whether the positions are consecutive, from 17 or a later one before 32 on.
+/// Whether the positions are consecutive and begin at 17 to 31. Then two instructions are enough
+/// for 32 lanes (`run`).
 const fn is_late_run<P: Positions<M>, const M: usize>() -> bool {
     let (first, mut i) = (P::POSITIONS[0], 1);
     let mut is_run = 16 < first && first < 32;
@@ -753,7 +755,7 @@ const fn is_late_run<P: Positions<M>, const M: usize>() -> bool {
     is_run
 }
 
-/// Returns the lanes from 16 on, if there are so many.
+/// Returns the lanes of the result from 16 on, if it has 32.
 #[cfg_attr(not(debug_assertions), inline(always))]
 fn second_half_of<P: Positions<M>, const N: usize, const M: usize>(
     first: Simd<u8, N>,
@@ -765,6 +767,7 @@ where
     if const { M == 32 } { half_of::<P, N, M, 1>(first, second) } else { first.0.half(0) }
 }
 
+/// Returns 16 lanes of the result, those from `16 * PART` on.
 #[cfg_attr(not(debug_assertions), inline(always))]
 fn half_of<P: Positions<M>, const N: usize, const M: usize, const PART: usize>(
     first: Simd<u8, N>,

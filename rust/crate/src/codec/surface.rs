@@ -28,8 +28,8 @@ use super::{decode, encode};
 use crate::panics::capacity_overflow;
 use crate::{DecodingError, SliceError, short};
 
-/// Returns whether a byte is there that the encoding changes. Each call that needs this calls the one
-/// function, which is long.
+/// Returns whether the encoding changes some byte. All calls share one function for this, since its
+/// code is long.
 #[cfg_attr(not(debug_assertions), inline(always))]
 fn contains_changed<F: Flavor>(bytes: &[u8]) -> bool {
     at_level! {
@@ -41,7 +41,7 @@ fn contains_changed<F: Flavor>(bytes: &[u8]) -> bool {
     }
 }
 
-/// Returns the length of the encoding of a text that changes. This too is one function.
+/// Returns the length of the encoding of a text. All calls share one function for this too.
 #[cfg_attr(not(debug_assertions), inline(always))]
 fn encoded_len<F: Flavor>(text: &str) -> usize {
     at_level! {
@@ -55,7 +55,8 @@ fn encoded_len<F: Flavor>(text: &str) -> usize {
 
 #[cfg_attr(not(debug_assertions), inline(always))]
 fn encoded<F: Flavor>(text: &str) -> Cow<'_, [u8]> {
-    // The test of few bytes was inlined into the caller, and here it takes less than a call.
+    // The public call has tested up to 64 bytes before, but src/tests.rs calls a level directly.
+    // Inlined, this test takes less time than a call.
     let is_unchanged = match (text.len() <= FEW, F::has_long_null()) {
         (true, true) => short::is_unchanged::<true>(text),
         (true, false) => short::is_unchanged::<false>(text),
@@ -83,7 +84,7 @@ fn encode_into<F: Flavor>(text: &str, buf: &mut Vec<u8>) {
 /// The most bytes that are decoded on the stack.
 const FEW: usize = 64;
 
-/// The encoding alone, of bytes that were tested for short ASCII before.
+/// The mode that accepts the encoding alone, for bytes that are known not to be short ASCII.
 struct Tested;
 
 impl Accepts for Tested {
@@ -98,8 +99,9 @@ impl Accepts for Tested {
     }
 }
 
-/// Returns `None` if all bytes are the same in UTF-8, or how many at the start are. With `LENIENT` it
-/// also returns `None` for more than 64 bytes of UTF-8 without characters of four bytes.
+/// Returns `None` if all bytes are unchanged in UTF-8, and otherwise the unchanged prefix. With
+/// `LENIENT` it also returns `None` for more than 64 bytes of UTF-8 without characters of four
+/// bytes.
 #[cfg_attr(not(debug_assertions), inline(always))]
 fn front_unless_unchanged<F: Flavor, A: Accepts, const LENIENT: bool>(
     bytes: &[u8],
@@ -110,8 +112,9 @@ fn front_unless_unchanged<F: Flavor, A: Accepts, const LENIENT: bool>(
     if A::is_short_kept::<F>(bytes) {
         return None;
     }
-    // UTF-8 may have a byte 00, which CESU-8 leaves unchanged, and so its test is the shorter one. These
-    // are inlined, unlike those of fewer bytes, since they are little but a call.
+    // A lenient call first looks for the prefix that CESU-8 leaves unchanged, in which a byte 00
+    // may be: if that is everything, the input is UTF-8. These searches are inlined, unlike those
+    // of at most 64 bytes, since they are little more than a call.
     let mut len = if LENIENT {
         longest_prefix::<Cesu8Flavor, Unchanged>(bytes)
     } else {
@@ -127,8 +130,8 @@ fn front_unless_unchanged<F: Flavor, A: Accepts, const LENIENT: bool>(
     if len == bytes.len() { None } else { Some(UnchangedPrefix { len, changed: 0 }) }
 }
 
-/// Returns whether bytes are UTF-8, of which `front` are. If they are, the encoding lacks the
-/// character after the front.
+/// Returns whether bytes are UTF-8, of which the unchanged prefix `front` is known to be. If they
+/// are, the next character is one that the encoding lacks: 00, or one of four bytes.
 #[cfg_attr(not(debug_assertions), inline(always))]
 fn is_utf8_after(front: UnchangedPrefix, bytes: &[u8]) -> bool {
     let rest = bytes.part(front.len..);
@@ -161,7 +164,7 @@ fn strict_other<F: Flavor>(
                 front: UnchangedPrefix,
                 is_lenient: bool,
             ) -> Result<Cow<'_, str>, DecodingError> {
-                // Of few bytes, none is ill-formed if it is known what changes.
+                // `changed` is 0 for more than 64 bytes, and also if a byte is ill-formed.
                 if front.changed != 0 {
                     return strict_few::<F>(bytes, front);
                 }
@@ -192,7 +195,8 @@ fn strict_few<F: Flavor>(
     Ok(Cow::Owned(known_string(text)))
 }
 
-/// Decodes strictly more than 64 bytes. It is not inlined, so that fewer have few registers to save.
+/// Decodes strictly more than 64 bytes. It is not inlined, so that shorter input saves few
+/// registers.
 #[cfg_attr(not(debug_assertions), inline(always))]
 fn strict_many<F: Flavor>(
     bytes: &[u8],
@@ -236,7 +240,7 @@ fn too_short(fault: TooShort) -> SliceError {
     SliceError::TooShort { needed: fault.needed() }
 }
 
-/// Writes the decoded text to a slice, of bytes that are not short ASCII.
+/// Decodes bytes that are not short ASCII, and writes the text to a slice.
 #[cfg_attr(not(debug_assertions), inline(always))]
 fn to_slice<F: Flavor, S: Reading>(bytes: &[u8], buf: &mut [u8]) -> SliceResult {
     match decode_to_slice::<F, Tested, S>(bytes, buf) {

@@ -1,4 +1,6 @@
-//! The levels of x86-64.
+//! The levels of x86-64. `level.rs` says what each macro is for. The first four are those of v3,
+//! and the next four, with the same names, those of v2. Then come the definitions of `by_level!`,
+//! one for each kind of build.
 
 macro_rules! at_level {
     (loop { $($function:tt)* } $call:expr) => {
@@ -41,7 +43,7 @@ macro_rules! block {
 #[path = "../codec/mod.rs"]
 pub(crate) mod v3;
 
-// Few processors have this level and not v3, so no function is inlined for speed alone.
+// The macros of v2. Few processors have v2 and not v3, so no function is inlined for speed alone.
 #[allow(unused_macros)] // A build for v3 has no v2.
 macro_rules! at_level {
     (loop $($function:tt)*) => { at_level! { writer $($function)* } };
@@ -106,8 +108,8 @@ macro_rules! by_level {
     };
 }
 
-// Others, if the processor can be asked. The function that is called is in a static; at first it is
-// one that asks the processor, and puts that of the level there.
+// Other builds, if the processor can be asked. A static has the function to call. At first it is
+// one that asks the processor, and stores the function of its level there.
 #[cfg(all(
     feature = "std",
     not(all(
@@ -152,7 +154,7 @@ macro_rules! by_level {
     };
 }
 
-// Others, if it can't: v2 if the build is for it.
+// Other builds, if it can't be asked: v2 if the build is for it, and otherwise `plain`.
 #[cfg(all(
     not(feature = "std"),
     target_feature = "sse4.2",

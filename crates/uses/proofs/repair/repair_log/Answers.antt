@@ -1,5 +1,5 @@
--- A log loses bytes if and only if it has no strict reading (`loses_bytes`, `loses_none`). The laws
--- `middle` and `fewest` say what of it remains.
+-- A log loses bytes if and only if it has no strict reading (`loses_bytes`, `loses_none`). By the
+-- laws `middle` and `fewest`, each whole record is kept, and as few bytes as possible are replaced.
 use Rattle.std.proofs.Common.{◌≡◌, IsTrue, false, refl, sym, ◌∙◌, ap}
 use Rattle.std.specs.Str.{chars}
 use Rattle.simd_cesu8.specs.Cow.{answer_text}

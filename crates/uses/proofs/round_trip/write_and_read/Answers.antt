@@ -1,5 +1,6 @@
--- The buffer begins with the form of the text, and by `read_utf` with no other form. So the string
--- that was read has the text's characters, and then also its bytes.
+-- The buffer begins with the form of the text: its length and its MUTF-8. By the contract of
+-- `read_utf` it begins with no other form. So the string that was read has the text's characters,
+-- and by the law `chars` also its bytes.
 use Rattle.std.proofs.Common.{◌≡◌, ◌<◌, ◌++◌, ◌∙◌, ap, sym, arith, rules}
 use Rattle.std.specs.Str.{chars}
 use Rattle.std.proofs.Math.Nat.{lt_of_not-le}

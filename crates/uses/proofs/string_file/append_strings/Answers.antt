@@ -1,5 +1,5 @@
--- Each step adds one form to those that were read (`one_copied`). If no form begins the rest, the
--- source is no sequence of forms at all (`none_are_read`).
+-- Each step adds one form, a string after its length, to those that were read (`one_copied`). If no
+-- form begins the rest, the source is no sequence of forms at all (`none_are_read`).
 use Rattle.std.proofs.Common.{◌≡◌, [], length, rules, arith, ap}
 use Rattle.std.proofs.lemmas.Grind.{common_steps}
 use Rattle.uses.proofs.CopiedStrings.{one_copied, none_are_read}

@@ -1,5 +1,5 @@
--- So far some forms were read from the source and appended to the target. The rest becomes shorter
--- with each string.
+-- So far some strings, each after its length, were read from the source and appended to the target.
+-- The rest becomes shorter with each string.
 use Rattle.std.proofs.Common.{length}
 use Rattle.uses.proofs.CopiedStrings.{CopiedSoFar}
 use Rattle.uses.proofs.string_file.append_strings.Given as goal

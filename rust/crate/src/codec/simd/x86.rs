@@ -1,8 +1,9 @@
 //! Vectors of 16 bytes by SSE2, SSSE3 and SSE4.1, and of 32 by AVX2.
 //!
-//! Each function is inlined into one that has the features of its level (`at_level!`), which runs
-//! only after the processor was asked for them. Level v2 has no vectors of 32 bytes. With debug
-//! assertions the functions are not always inlined, since a debug build would then take minutes.
+//! Each function is inlined into one that has the features of its level (`at_level!`), and that
+//! runs only on a processor which has them: `SAFETY: the level has the instruction.` means this.
+//! Level v2 has no vectors of 32 bytes. With debug assertions the functions are not always inlined,
+//! since a debug build would then take minutes.
 #![allow(unused_unsafe)] // Later compilers call some of these without `unsafe`.
 
 use core::arch::x86_64::*;
@@ -36,7 +37,7 @@ pub fn of_low(low: u64) -> Half {
     unsafe { _mm_cvtsi64_si128(low as i64) }
 }
 
-/// Calls `$align` by a constant.
+/// Calls `$align` with a constant, which these instructions need.
 macro_rules! align {
     ($align:ident($second:expr, $first:expr, $by:expr)) => {
         align!($align($second, $first, $by) 1 2 3 4 5 6 7 8 9 10 11 12 13 14 15)

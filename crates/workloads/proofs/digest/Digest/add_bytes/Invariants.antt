@@ -1,4 +1,4 @@
--- Each word takes eight bytes of the rest.
+-- The loop ends, since each word takes eight bytes of the rest.
 use Rattle.std.proofs.Common.{length}
 use Rattle.workloads.proofs.digest.Digest.add_bytes.Given as goal
 
