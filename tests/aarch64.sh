@@ -26,8 +26,8 @@ source "$top/tests/shown.sh" || exit 2
 # shellcheck source=tests/run_examples.sh
 source "$top/tests/run_examples.sh" || exit 2
 
-# The release for aarch64 has the files of the one for x86-64, without the programs and their pages.
-# They are the same, except the library and two files that name the processor.
+# The release for aarch64 has the files of the one for x86-64, without the programs and what belongs
+# to them. Only the library and two files that name the processor have other contents.
 look_at_files() {
     local file others='^lib/libcesu8\.(a|so\..*)$|^README.md$|/cesu8-config-version.cmake$'
     diff <(cd "$native" && find . ! -type d -printf '%P %M\n' | sort |

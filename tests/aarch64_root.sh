@@ -3,7 +3,7 @@
 # without installing them:
 #   aarch64_root.sh FOLDER
 # If AARCH64_ROOT names FOLDER, dist.sh builds the wheel for aarch64 with the headers, and
-# tests/wheel.sh runs Python in an emulator. It needs the same tools as tests/debian.sh.
+# tests/wheel.sh runs Python in an emulator. It needs what tests/debian.sh needs.
 set -euo pipefail
 unset CDPATH
 

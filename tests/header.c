@@ -1,5 +1,6 @@
 // Uses everything that cesu8.h declares: each call, each member of a struct, each status and each macro.
-// The script compiles it as C and as C++, with all warnings of the compilers, and never runs it.
+// tests/exports.sh compiles it as C and as C++, with all warnings of the compilers, and never runs
+// it.
 //
 // With -DWRONG=N it has one of the faults about which a compiler with the header's attributes warns.
 

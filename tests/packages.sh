@@ -86,7 +86,7 @@ files_of() {
     (cd "$scratch/$1" && find . -path ./DEBIAN -prune -o -not -type d -printf '%P\n' | sort)
 }
 
-# Prints the expected files of a package, apart from those whose names are read from the release:
+# Prints the expected files of a package, with the examples and man pages that the release has:
 # `wanted_files NAME`.
 wanted_files() {
     local doc=usr/share/doc/$1 file

@@ -142,7 +142,7 @@ fi
 {
     compare 3 'code and constants' 0
     if grep -qw avx2 /proc/cpuinfo; then
-        # Another compiler of the chooser saves other registers.
+        # Another compiler may save other registers in chooser.c, so 64 bytes are allowed.
         compare 4 stack 64
     else
         echo 'the processor has no AVX2: the stack of calls skipped' >&2

@@ -92,7 +92,7 @@ look_at_tag() {
 functions_of() {
     local text
     text=$(readelf -SW "$1" | sed -n 's/.* \.text *PROGBITS *\([0-9a-f]*\) .*/\1/p')
-    # The functions before that are the linker's.
+    # The functions before the section .text are the linker's.
     readelf -wf "$1" | sed -n 's/.* FDE .* pc=\([0-9a-f]*\)\.\..*/\1/p' |
         awk -v text="$text" '$1 "" >= text ""'
 }

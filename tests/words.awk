@@ -1,4 +1,4 @@
-# Compares the words of docs/PROVED.md with the clauses beside them:
+# Compares the words of docs/PROVED.md with the clauses beside them, for tests/clauses.sh:
 #   awk -f words.awk tests/clauses.txt docs/PROVED.md
 # A row's text is the signatures and clauses that its last cell names, with all definitions that
 # these cite. It prints a line if
