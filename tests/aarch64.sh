@@ -8,10 +8,10 @@
 # - tests/digest.c prints the same as on this processor.
 # tests/packages.sh and tests/wheel.sh test the packages and the wheel for aarch64.
 #
-# RELEASE names the folder that dist.sh has filled; if it is not set, this script runs dist.sh. If a
-# tool that tests/cross.sh names is missing, it says that it skipped everything. If pkg-config,
-# CMake, java or a C++ compiler is missing, it says what it skipped. The status is 0 if nothing is
-# wrong. It needs what tests/release.sh needs.
+# RELEASE names the folder that release/dist.sh has filled; if it is not set, this script runs
+# dist.sh. If a tool that tests/cross.sh names is missing, it says that it skipped everything. If
+# pkg-config, CMake, java or a C++ compiler is missing, it says what it skipped. The status is 0 if
+# nothing is wrong. It needs what tests/release.sh needs.
 # shellcheck source=tests/lib.sh
 source "$(dirname "${BASH_SOURCE[0]}")/lib.sh" || exit 2
 crate=$top/crates/cesu8_c

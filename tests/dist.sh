@@ -1,6 +1,6 @@
 #!/usr/bin/env bash
-# Builds the release by dist.sh, unpacks it in an empty folder, and uses it there without the kit on
-# the PATH:
+# Builds the release by release/dist.sh, unpacks it in an empty folder, and uses it there without
+# the kit on the PATH:
 # - tests/exports.c calls each export of the archive, at both levels, and of the shared object;
 # - keys.c is built with pkg-config and with CMake, with the archive and with the shared object, from the
 #   unpacked release, and after install.sh installed it with the library in lib, lib64 and
@@ -175,8 +175,8 @@ look_at_cross_pages() {
     look_at_pages
 }
 
-# Tests the symbols of the archive: it defines its calls, and needs only functions that copy and compare
-# bytes, and for the chooser the function of the compiler's runtime that returns the processor's level.
+# Tests the symbols of the archive: it defines its calls, and needs only functions that copy, set
+# and compare bytes, and for the chooser what the compiler's runtime knows of the processor.
 look_at_archive() {
     local archive=$unpacked/lib/libcesu8.a asked
     diff <({ exports | sed 's/.*/&\n&_v2\n&_v3/'; plain_calls; } | sed 's/^/T cesu8_/' | sort) \

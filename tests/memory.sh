@@ -460,8 +460,7 @@ border_rows() {
     damaged_read_rows
 }
 
-# The longest inputs, and the longest Java string. Every character needs conversion, and each block ends
-# in another part of one.
+# The longest inputs, and the longest Java strings. In most inputs every character needs conversion.
 long_rows() {
     local bytes
     keep_pattern changes 819
@@ -508,8 +507,9 @@ refuse() {
     esac
 }
 
-# Adds a process that makes these calls, one a line, on an input. BEFORE allocations are made before the
-# one that fails: `process NAME CALLS INPUT BEFORE PRINTED MORE`.
+# Adds a process that makes these calls, one a line, on an input. BEFORE of their allocations
+# succeed. `main` makes 2 - BEFORE first, so that the next one fails. MORE succeed after the calls:
+# `process NAME CALLS INPUT BEFORE PRINTED MORE`.
 process() {
     local calls=${2%$'\n'} file
     processes=$((processes + 1))

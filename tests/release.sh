@@ -1,5 +1,5 @@
-# The release that dist.sh makes, for the scripts that use it. A script sources this file after
-# tests/lib.sh.
+# The release that release/dist.sh makes, for the scripts that use it. A script sources this file
+# after tests/lib.sh.
 # shellcheck shell=bash disable=SC2034,SC2154
 
 version=$(<"$top/VERSION")

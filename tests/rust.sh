@@ -15,10 +15,10 @@
 # - no warning of rustc, rustdoc, clippy and cargo package, and rustfmt of what is written by hand;
 # - that the v3 code of the decoder's pass puts no vector together byte by byte.
 #
-# RELEASE names the folder that dist.sh has filled; without it the crates come from rust/make.sh,
-# and nothing is compared with the library for C. It says what it skipped. It needs cargo and
-# python3, bash, awk, sed, tar and the core utilities; without cargo or python3 it skips everything.
-# The status is 0 if nothing is wrong.
+# RELEASE names the folder that release/dist.sh has filled; without it the crates come from
+# rust/make.sh, and nothing is compared with the library for C. It says what it skipped. It needs
+# cargo and python3, bash, awk, sed, tar and the core utilities; without cargo or python3 it skips
+# everything. The status is 0 if nothing is wrong.
 #
 #   rust.sh [--inputs N]    N inputs for each comparison, in place of the numbers below
 unset "${!CARGO_@}" RUSTFLAGS
@@ -47,8 +47,9 @@ packages=$scratch/packages
 crate=$packages/cesu8_rattle-$version
 # What rustc takes for the level x86-64-v3.
 v3_flags='-C target-cpu=x86-64-v3'
-# Runs cargo in the crate: `in_crate ARGUMENT..`. What is built is kept in $scratch/NAME of
-# `target`. What cargo writes for a debugger and for later builds would double the time of a debug build.
+# Runs cargo in the crate: `in_crate ARGUMENT..`. It builds in the folder of $scratch that `target`
+# names. What cargo writes for a debugger and for later builds would double the time of a debug
+# build.
 in_crate() {
     (cd "$crate" && CARGO_INCREMENTAL=0 CARGO_PROFILE_DEV_DEBUG=0 \
         CARGO_TARGET_DIR=$scratch/${target:-target} quietly cargo "$@")
@@ -127,10 +128,10 @@ test_levels() {
     fi
 }
 
-# Builds other forms of the crate. That for x86-64-v3 takes least, so it is the one that is compared
-# with the library for C, if this processor has its level. Its assembly is also written, for
-# `look_at_assembly`. The other forms differ in which code a call chooses, and `test_levels` tests that
-# code on many inputs, so they are tested on few.
+# Builds other forms of the crate. That for x86-64-v3 takes the least time, so it is the one that is
+# compared with the library for C, if this processor has its level. Its assembly is also written,
+# for `look_at_assembly`. The other forms differ in which code a call chooses, and `test_levels` tests
+# that code on many inputs, so they are tested on few.
 test_forms() {
     local compared=(test --release --test c_library --test cases --test surface)
     local flags="$v3_flags --emit asm"
