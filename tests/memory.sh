@@ -566,8 +566,8 @@ run_case() {
         2>"$scratch/said" 9>"$scratch/requests"
 }
 
-# Sets `refused` to the number of the third allocation of `main`. The call here allocates nothing, so
-# `main` makes only the three at its end, and the third is the last one of the process.
+# Sets `refused` to the number of the third allocation of `main`. The call here allocates nothing,
+# so `main` makes only the three at its end, and the third is the last one of the process.
 find_refused() {
     printf '0 utf16_len cesu8\na' >"$scratch/cases/none"
     run_case 0 none || { cat "$scratch/said"; exit 2; }

@@ -130,8 +130,8 @@ test_levels() {
 
 # Builds other forms of the crate. That for x86-64-v3 takes the least time, so it is the one that is
 # compared with the library for C, if this processor has its level. Its assembly is also written,
-# for `look_at_assembly`. The other forms differ in which code a call chooses, and `test_levels` tests
-# that code on many inputs, so they are tested on few.
+# for `look_at_assembly`. The other forms differ in which code a call chooses, and `test_levels`
+# tests that code on many inputs, so they are tested on few.
 test_forms() {
     local compared=(test --release --test c_library --test cases --test surface)
     local flags="$v3_flags --emit asm"
