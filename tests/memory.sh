@@ -463,6 +463,7 @@ border_rows() {
 # The longest inputs, and the longest Java strings. In most inputs every character needs conversion.
 long_rows() {
     local bytes
+    # 16,380 bytes of UTF-8.
     keep_pattern changes 819
     encode_rows cesu8 mutf8
     text 16384 U+1F496
