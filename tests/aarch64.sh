@@ -8,10 +8,10 @@
 # - tests/digest.c prints the same as on this processor.
 # tests/packages.sh and tests/wheel.sh test the packages and the wheel for aarch64.
 #
-# RELEASE names the folder that dist.sh has filled; if it is not set, this script runs dist.sh. If a
-# tool that tests/cross.sh names is missing, it says that it skipped everything. If pkg-config,
-# CMake, java or a C++ compiler is missing, it says what it skipped. The status is 0 if nothing is
-# wrong. It needs what tests/release.sh needs.
+# RELEASE names the folder that release/dist.sh has filled; if it is not set, this script runs
+# dist.sh. If a tool that tests/cross.sh names is missing, it says that it skipped everything. If
+# pkg-config, CMake, java or a C++ compiler is missing, it says what it skipped. The status is 0 if
+# nothing is wrong. It needs what tests/release.sh needs.
 # shellcheck source=tests/lib.sh
 source "$(dirname "${BASH_SOURCE[0]}")/lib.sh" || exit 2
 crate=$top/crates/cesu8_c
@@ -26,8 +26,8 @@ source "$top/tests/shown.sh" || exit 2
 # shellcheck source=tests/run_examples.sh
 source "$top/tests/run_examples.sh" || exit 2
 
-# The release for aarch64 has the files of the one for x86-64, without the programs and their pages.
-# They are the same, except the library and two files that name the processor.
+# The release for aarch64 has the files of the one for x86-64, without the programs and what belongs
+# to them. Only the library and two files that name the processor have other contents.
 look_at_files() {
     local file others='^lib/libcesu8\.(a|so\..*)$|^README.md$|/cesu8-config-version.cmake$'
     diff <(cd "$native" && find . ! -type d -printf '%P %M\n' | sort |

@@ -2,8 +2,8 @@
 # Unpacks Debian's Python for arm64, its headers and the libraries that they need into a folder,
 # without installing them:
 #   aarch64_root.sh FOLDER
-# If AARCH64_ROOT names FOLDER, dist.sh builds the wheel for aarch64 with the headers, and
-# tests/wheel.sh runs Python in an emulator. It needs the same tools as tests/debian.sh.
+# If AARCH64_ROOT names FOLDER, release/dist.sh builds the wheel for aarch64 with the headers, and
+# tests/wheel.sh runs Python in an emulator. It needs what tests/debian.sh needs.
 set -euo pipefail
 unset CDPATH
 

@@ -1,11 +1,12 @@
 #!/usr/bin/env bash
-# Builds the driver of bench by bench/run.sh, and runs it for one round. Before it measures, the driver
-# compares the result of each call for many inputs with a plain codec. Times are not tested. The script
-# also tests which arguments bench/run.sh rejects, and how the measured functions are aligned.
+# Builds bench/driver.rs by bench/run.sh, and runs it for one round. Before it measures, the driver
+# compares the result of each call for many inputs with that of a plain codec (bench/expected.rs).
+# Times are not tested. The script also tests which arguments bench/run.sh rejects, and that the
+# measured functions begin at multiples of 32 bytes.
 #
 # In a clean clone it proves the libraries first. If there is no rustc that knows the edition 2024, it
-# says that it skipped all. The status is 0 if nothing is wrong. It needs the kit's `rt`, rustc, bash,
-# grep, sed, readelf, objcopy and the core utilities.
+# says that it skipped everything. The status is 0 if nothing is wrong. It needs the kit's `rt`,
+# rustc, bash, grep, sed, readelf, objcopy and the core utilities.
 # shellcheck source=tests/lib.sh
 source "$(dirname "${BASH_SOURCE[0]}")/lib.sh" || exit 2
 # shellcheck source=tests/kit.sh

@@ -2,17 +2,17 @@
 # after tests/lib.sh, and first sets `crate`, the folder of the library.
 # shellcheck shell=bash disable=SC2154
 
-# The functions that the crate exports.
+# Prints the functions that the crate exports, without the `cesu8_` at the start of each name.
 exports() {
     sed -n 's/^pub extern "C" fn cesu8_\([a-z0-9_]*\).*/\1/p' "$crate"/src/*.rt
 }
 
-# The functions of the archive that are written in C.
+# Prints the functions of the archive that are written in C, also without `cesu8_`.
 plain_calls() {
     sed -n 's/^[a-z].*cesu8_\([a-z0-9_]*\)(.*)$/\1/p' "$crate/plain.c"
 }
 
-# The names of the version map, each with its node: NAME@@NODE.
+# Prints the full names of the version map, each with its node: NAME@@NODE.
 mapped() {
     awk '
         /^CESU8_[0-9.]+ \{$/ { node = $1 }

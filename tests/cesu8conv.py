@@ -115,7 +115,7 @@ def run_file(data, command, flavor):
 
 
 def run_pipe(data, command, flavor, size):
-    """Runs the program on a pipe that is given so many bytes at a time.
+    """Runs the program on a pipe to which this script writes `size` bytes at a time.
 
     More than 4,096 bytes are given by `communicate`, which also reads the output meanwhile:
     otherwise the program and this script could both wait for a full pipe.
@@ -166,13 +166,14 @@ def compare(what, ran, data, command, flavor, name):
 COMMANDS = ["encode", "decode", "lossy", "mixed", "mixed --lossy"]
 FLAVORS = ["cesu8", "mutf8"]
 PAIR = b"\xed\xa0\xbd\xed\xb2\x96"
-# What may stand at an edge: characters of each width, raw forms, cut characters and damage.
+# What is put at an edge: characters of the encodings and of UTF-8, cut characters, and damage.
 PARTS = [b"\xc3\xa9", b"\xe2\x82\xac", PAIR, b"\xf0\x9f\x92\x96", b"\0", b"\xc0\x80", b"\xff",
          PAIR[:3], PAIR[3:], PAIR[:5], b"\xe2\x82", b"\xf0\x9f\x92"]
 
 
 def each_edge():
-    """A part from 0 to 8 bytes before each edge of the first two windows, in a file and in a pipe."""
+    """A part from 0 to 8 bytes before the end of each of the first two windows in a file, and
+    before the end of the first window in a pipe."""
     for part, back, edge in itertools.product(PARTS, range(9), (WINDOW, 2 * WINDOW)):
         data = (b"0123456789abcde\n" * (edge // 16))[: edge - back] + part + b"\nend"
         for command, flavor in (("mixed --lossy", "cesu8"), ("decode", "mutf8"), ("encode", "cesu8")):
@@ -186,7 +187,7 @@ def each_edge():
 
 
 def each_byte():
-    """All parts in pairs, from a pipe that gives one byte at a time, and from a file."""
+    """All parts in pairs, from a pipe that gives one byte at a time."""
     for first, second in itertools.product(PARTS, PARTS):
         data = b"a\n" + first + second
         for command in COMMANDS:
@@ -196,7 +197,7 @@ def each_byte():
 
 
 def chance():
-    """Bytes by chance, of which many are near to characters."""
+    """Random sequences of the parts and of text."""
     source = random.Random(97)
     for _ in range(60):
         data = b"".join(source.choice(PARTS + [b"text\n", b"\xce\xbb"]) for _ in range(source.randrange(20000)))

@@ -1,7 +1,7 @@
 #!/usr/bin/env bash
 # Runs cesu8conv as a shell user would: its words, options, statuses, messages, files, pipes and devices.
 # tests/cesu8conv.py compares its output with a plain reference in Python, for characters cut at each
-# edge of its buffers; where there is no Python, this script says so.
+# edge of its buffers; if there is no Python, this script says so.
 #
 #   tests/cesu8conv.sh          all but the largest inputs
 #   tests/cesu8conv.sh --large  also 2^32 + 1 bytes from a pipe, and the speed beside `cat`
@@ -116,7 +116,8 @@ try_words() {
     says '--lossy of another command' 2 --lossy mixed
 }
 
-# What the message says of bytes, and for which command: `damage INPUT COMMAND FLAVOR OUTPUT TEXT`.
+# Tests a command that damage stops, with the output before it and the message, which has TEXT after
+# the name of the input: `damage INPUT COMMAND FLAVOR OUTPUT TEXT`.
 damage() {
     conv "$1" "$2" "$3"
     local right
@@ -145,7 +146,7 @@ try_messages() {
     gives '--fail-on-damage without damage' 0 a ''
 }
 
-# A pair is cut between two files, and damage is told by the place in its file.
+# A pair is cut between two files, and damage is reported by its line and offset in its own file.
 try_files() {
     cd "$scratch" || exit 2
     printf 'one\n\xED\xA0' >one
@@ -217,7 +218,8 @@ try_devices() {
     expect 'and ends the program' test "${statuses[0]}" != 0
 }
 
-# A file that becomes shorter while it is read: the first part is read from a pipe that waits.
+# A file that becomes shorter after the program has started. The program first reads a pipe, which
+# stays open until the file is cut.
 try_shrinking() {
     head -c 1000000 /dev/zero | tr '\0' a >"$scratch/shrinks"
     mkfifo "$scratch/pipe"
@@ -231,8 +233,8 @@ try_shrinking() {
     gives 'a file that shrinks' 0 baaaaaaaaaa ''
 }
 
-# So many bytes of mixed text, or a few more, in whole lines such as a dump of a database has, with a pair
-# and a character of four bytes in each: `mixed_text BYTES`.
+# Prints at least BYTES bytes of text, in lines like those of a database dump. Each line has a
+# surrogate pair and a character of four bytes: `mixed_text BYTES`.
 mixed_text() {
     local line block size
     line="INSERT INTO notes VALUES (17, 'caf\\xC3\\xA9 $pair $heart \\xE2\\x82\\xAC 12', NOW());\\n"
@@ -256,7 +258,8 @@ try_short_calls() {
     gives 'calls that move one byte' 0 "$wanted" ''
 }
 
-# 100 MB in little memory, and the sum of its output by another way.
+# Converts 100 MB in little memory. The expected checksum is that of the text in which `sed` has
+# replaced the surrogate pairs.
 try_memory() {
     local sum
     sum=$(mixed_text 100000000 | sed "s/$(printf '%b' "$pair")/$(printf '%b' "$heart")/" | cksum)

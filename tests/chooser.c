@@ -22,6 +22,8 @@ static struct {
     size_t buffer_length;
 } seen;
 
+// Defines a stub for the code of one level. It notes its arguments in `seen`, and returns a status
+// other than CESU8_OK, which is 0, so that `look` sees whether the chooser passes the result on.
 #define STUB_LEVEL(result, name, number, parameters, to, to_length)                                \
     result name##_v##number parameters;                                                            \
     result name##_v##number parameters                                                             \
@@ -33,6 +35,8 @@ static struct {
         answer.status = CESU8_TOO_LONG;                                                            \
         return answer;                                                                             \
     }
+// This macro and the next three define the stubs of a call for both levels, and a function that
+// makes the call: STUB_TOLD if the call takes an input, STUB_PLACED if it also takes a buffer.
 #define STUB_TOLD(result, name)                                                                    \
     STUB_LEVEL(result, name, 2, (const uint8_t *input, size_t length), NULL, 0)                    \
     STUB_LEVEL(result, name, 3, (const uint8_t *input, size_t length), NULL, 0)                    \
@@ -66,7 +70,7 @@ static struct {
         return name(input, n, buffer, m).status;                                                   \
     }
 
-// The last argument must be passed unchanged: it is true.
+// The last argument must be passed unchanged: it is true. If it is not, `seen` has a wrong length.
 #define STUB_LAST_PLACED(result, name)                                                             \
     STUB_LEVEL(result, name, 2,                                                                    \
                (const uint8_t *input, size_t length, uint8_t *buffer, size_t buffer_length,        \

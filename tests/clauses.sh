@@ -33,7 +33,8 @@ none() {
     done
 }
 
-# The public items of a file, as contracts.awk prints them: `items CRATE PREFIX FILE`.
+# Prints the public items of a file: `items CRATE PREFIX FILE`. A line has the crate, the name, the
+# clause or a mark such as `!fn`, and the text (contracts.awk).
 items() {
     echo "crates/$1/src/$3" >>"$scratch/files"
     awk -v crate="$1" -v prefix="$2" -f tests/contracts.awk "crates/$1/src/$3"
@@ -77,8 +78,8 @@ handed_on() {
     } | sed "s/^$below\t/$crate\t/"
 }
 
-# All that users can name. The program's are those of the library that it passes its arguments and streams
-# to: nothing else uses that.
+# Prints all items that users can name. The items of cesu8_cli_run, to which the program passes its
+# arguments and streams, are listed as those of cesu8_cli.
 everything() {
     local file
     public_items simd_cesu8 '' lib.rt

@@ -180,6 +180,7 @@ function name_in(taken) {
     return taken
 }
 
+# A name after PREFIX, the path of the modules in this file, and the type of the `impl`.
 function named(name) {
     return prefix inner (type == "" ? "" : type "::") name
 }

@@ -1,9 +1,11 @@
-# Adds up a profile of callgrind: awk -v library=NAME -v driver=NAME -f costs.awk FILE
+# Adds up a profile of callgrind, for tests/costs.sh:
+#   awk -v library=NAME -v driver=NAME -f costs.awk FILE
 #
-# It prints a line for each part of the file, with two sums: the cost of the library's object, and
-# the cost of allocations, copies and all other objects except the driver. An instruction counts 1,
-# and a mispredicted branch 15 more. The events must be Ir Bc Bcm Bi Bim, and no name or position
-# may be shortened.
+# It prints a line for each part of the file (each of callgrind's dumps is one), with two sums: the
+# cost of the library's object, and the cost of allocations, copies and all other objects except the
+# driver. An instruction counts 1, and a mispredicted branch 15 more. The events must be Ir Bc Bcm
+# Bi Bim: Ir are instructions, Bcm and Bim mispredicted branches. No name or position may be
+# shortened.
 /^part: / { part = $2 }
 /^events: / && $0 != "events: Ir Bc Bcm Bi Bim" {
     print "costs.awk: other events: " $0 >"/dev/stderr"

@@ -96,7 +96,8 @@ cost_of_calls() {
         awk -v level="$1" '{ printf "%s %s %.1f %.1f\n", $1, level, $3 / $2, $4 / $2 }'
 }
 
-# Prints the two sums of a run of a workload: `sums_of LEVEL NAME ROUNDS`.
+# Prints the two sums of a run of a workload, whose inputs have the seed 1:
+# `sums_of LEVEL NAME ROUNDS`.
 sums_of() {
     simulate "$1" '' ./workloads "$2" 1 "$3" &&
         awk -v library=workloads -v driver=none -f "$top/tests/costs.awk" "$scratch/counts"

@@ -1,6 +1,7 @@
 # Prints the modules of a crate that import one another, directly or through others, one a line:
 #   awk -f cycles.awk crates/CRATE/src/FILE.rt...
-# It reads the `use` statements, except those of tests. The root is `crate`.
+# tests/layers.sh runs it. It reads the `use` statements, except those of tests, which are at the
+# end of a file. The root is `crate`.
 
 FNR == 1 {
     here = FILENAME

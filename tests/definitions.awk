@@ -1,8 +1,9 @@
 # Prints the definitions that clauses cite, and the definitions that these cite: a line for each
 # head, equation, field and constructor, with the file, and two spaces before all but the head:
 #   awk -f definitions.awk TEXTS FILE.rt... FILE.antt...
-# TEXTS has the clauses; the .rt files import the names in them. Each .antt file is a module of
-# definitions, and specs/Lib.antt of a crate says which modules of others it exports.
+# tests/clauses.sh runs it. TEXTS has the clauses; the .rt files import the names in them. Each
+# .antt file is a module of definitions, and specs/Lib.antt of a crate says which modules of others
+# it exports.
 
 FILENAME == ARGV[1] {
     cite($0)

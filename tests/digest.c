@@ -12,6 +12,8 @@
 #include <stdio.h>
 #include <string.h>
 
+// Inputs and buffers begin at SHIFTS different addresses, in arrays of ROOM bytes, which is more
+// than enough. A call gets one of TURNS inputs.
 enum { LONGEST = 300, SHIFTS = 33, FAULTS_AT_A_PLACE = 3, TURNS = 4, ROOM = 4096 };
 
 #define LENGTH(array) (sizeof(array) / sizeof *(array))

@@ -1,6 +1,6 @@
 #!/usr/bin/env bash
-# Builds the release by dist.sh, unpacks it in an empty folder, and uses it there without the kit on
-# the PATH:
+# Builds the release by release/dist.sh, unpacks it in an empty folder, and uses it there without
+# the kit on the PATH:
 # - tests/exports.c calls each export of the archive, at both levels, and of the shared object;
 # - keys.c is built with pkg-config and with CMake, with the archive and with the shared object, from the
 #   unpacked release, and after install.sh installed it with the library in lib, lib64 and
@@ -143,7 +143,7 @@ look_at_pages() {
     while read -r file; do
         grep -qF "\`$file\`" "$unpacked/README.md" || wrong "the README does not name $file"
     done < <(grep -v '^README.md$' "$scratch/files")
-    # The last is an example of a folder, and the others are of the repository, as the change log says.
+    # The last grep leaves out two scripts of the repository, and a folder that is only an example.
     # shellcheck disable=SC2016
     while read -r file; do
         grep -qx "$file" "$scratch/files" || wrong "a page names $file, which is not there"
@@ -175,8 +175,8 @@ look_at_cross_pages() {
     look_at_pages
 }
 
-# Tests the symbols of the archive: it defines its calls, and needs only functions that copy and compare
-# bytes, and for the chooser the function of the compiler's runtime that returns the processor's level.
+# Tests the symbols of the archive: it defines its calls, and needs only functions that copy, set
+# and compare bytes, and for the chooser what the compiler's runtime knows of the processor.
 look_at_archive() {
     local archive=$unpacked/lib/libcesu8.a asked
     diff <({ exports | sed 's/.*/&\n&_v2\n&_v3/'; plain_calls; } | sed 's/^/T cesu8_/' | sort) \
@@ -216,8 +216,8 @@ look_at_shared() {
     done
 }
 
-# Tests that a program with one call, linked with --gc-sections, contains no other call, and is at most a
-# tenth as large as the archive.
+# Tests that a program with one call, linked with --gc-sections, contains no other call, and is less
+# than an eighth as large as the archive.
 look_at_sections() {
     local program=$scratch/one_call
     printf '%s\n' '#include <cesu8.h>' 'int main(void) {' \
@@ -301,7 +301,7 @@ done
 can_build_c 'the release' || exit 0
 build_twice
 look_at_usage
-# The scripts that use more of the release take it from there.
+# Leaves the release in the folder that RELEASE names, for the scripts that test more of it.
 [[ -z ${RELEASE-} ]] || cp -R "$scratch/first" "$RELEASE" || exit 2
 
 PATH=$(path_without_kit)

@@ -38,7 +38,8 @@ HAS(cesu8_progress, status, enum cesu8_status);
 HAS(cesu8_progress, read, size_t);
 HAS(cesu8_progress, written, size_t);
 
-// With these sizes and members, both calling conventions pass the structs in the same way.
+// With these sizes and members, the calling conventions of x86-64 and of aarch64 return the structs
+// in the same way: up to 16 bytes in registers, and 24 in memory.
 _Static_assert(sizeof(enum cesu8_status) == 4, "enum cesu8_status");
 _Static_assert(sizeof(struct cesu8_answer) == 16, "struct cesu8_answer");
 _Static_assert(sizeof(struct cesu8_comparison) == 8, "struct cesu8_comparison");
@@ -174,8 +175,8 @@ struct row {
 #define U_FFFF "\xEF\xBF\xBF"                   // U+FFFF, which is above each surrogate
 #define BETWEEN "\xFE"                           // What is between two texts to compare
 
-// As many bytes as two bytes can count, and one more; and the form of the former. As many damaged bytes,
-// after their count, which consists of damaged bytes too; and their lossy reading.
+// 65,536 letters, one more than a Java string can have; the Java string of the first 65,535; a Java
+// string of 65,535 bytes FF, whose count is FF FF too; and the text as which it is read lossily.
 static char long_text[65536];
 static char long_form[65537];
 static char damaged_form[65537];

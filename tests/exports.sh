@@ -7,8 +7,8 @@
 # 3. It tests the chooser with stubs for the code of the levels.
 # 4. It builds the static library for one level, and links and runs tests/exports.c with it, which
 #    calls each export.
-# tests/dist.sh does the last step with the archive and the shared object of the release, which it
-# builds, and builds and runs all callers.
+# tests/dist.sh builds the release, does the last step with its archive and its shared object, and
+# builds and runs all callers.
 #
 # If there is no C or C++ compiler or no clang, it says what it skipped. The status is 0 if nothing is
 # wrong. In a clean clone it first proves the libraries, with one job, since several jobs take more

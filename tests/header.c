@@ -1,5 +1,6 @@
 // Uses everything that cesu8.h declares: each call, each member of a struct, each status and each macro.
-// The script compiles it as C and as C++, with all warnings of the compilers, and never runs it.
+// tests/exports.sh compiles it as C and as C++, with all warnings of the compilers, and never runs
+// it.
 //
 // With -DWRONG=N it has one of the faults about which a compiler with the header's attributes warns.
 
@@ -44,6 +45,7 @@ static bool is_status(enum cesu8_status status)
     bool is_any = status == CESU8_OK || status == CESU8_NOT_UTF8 || status == CESU8_INVALID
         || status == CESU8_TRUNCATED || status == CESU8_TOO_LONG || status == CESU8_TOO_SMALL
         || status == CESU8_INCOMPLETE || status == CESU8_FULL;
+    // 8 is no status.
     return is_any && cesu8_status_text(status) != cesu8_status_text(8);
 }
 

@@ -1,6 +1,6 @@
 #!/usr/bin/env bash
-# Runs the built program with every command on 64 MB of each kind of hostile bytes. The table below
-# has the expected results. Output is compared byte for byte.
+# Runs the built program with every command on 64 MB of each kind of hostile bytes. The variable
+# `table` has the expected results. Output is compared byte for byte.
 #
 # Each run has a memory limit: the vector that has grown to hold the input (the next power of two),
 # the one allocation of the output, and a fifth more. tests/requests.sh tests runs that lack memory.
@@ -8,7 +8,7 @@
 # The expected output for noise, which is random bytes, comes from the plain codec of bench. It
 # needs a rustc. If there is none, the script says that it skipped these comparisons.
 #
-# | command | the request for the output |
+# | command | the allocation for the output |
 # |---|---|
 # | `encode`, `lossy`, `lossy-strict` | none if the output is the input, else its length |
 # | `decode`, `decode-strict` | none if the output is the input, else the input's length |

@@ -26,7 +26,7 @@ noise() {
     }')"
 }
 
-# Prints LENGTH bytes of one kind: first halves of surrogate pairs, the last character, a lead byte
+# Prints LENGTH bytes of one kind: first halves of surrogate pairs, U+10FFFF in UTF-8, a lead byte
 # that begins no character in CESU-8, pairs that are cut off after two bytes, nulls, or noise. Noise
 # comes in whole millions, and one million is left in $scratch/million: `hostile_bytes KIND LENGTH`.
 hostile_bytes() {

@@ -24,8 +24,8 @@ by_toolchain() {
     by_cmake 'keys.c by CMake with the release as a root' "-DCMAKE_TOOLCHAIN_FILE=$file"
 }
 
-# Tests which versions CMake accepts, and that it accepts no library of 64 bits for other
-# processors.
+# Tests which versions CMake accepts, and that it accepts the library neither for a processor of 32
+# bits nor for aarch64.
 look_at_versions() {
     local folder=$scratch/versions first=$major.0 next=$((major + 1))
     mkdir "$folder" || exit 2

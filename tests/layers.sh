@@ -9,7 +9,7 @@
 #   below, and the proofs of std are public;
 # - no contract, ghost item or definition uses a name from a proof, except the proof of a trait's
 #   law;
-# - only the modules in the list below import one another. The list should become shorter;
+# - no module imports itself through others, except those that `known_cycles` lists, now none;
 # - only crates whose names end in `_tests` have tests, since `rt ci` proves a crate with tests twice.
 # The status is 0 if nothing is wrong. It needs bash, awk, sed and the core utilities.
 set -u
@@ -20,7 +20,7 @@ cd "$(dirname "${BASH_SOURCE[0]}")/.." || exit 2
 scratch=$(mktemp -d) || exit 2
 trap 'rm -rf "$scratch"' EXIT
 
-# The modules of each crate that may import one another.
+# The modules that may import one another, one a line, each after its crate.
 known_cycles() {
     cat <<'MODULES'
 MODULES
@@ -46,6 +46,7 @@ sed 's/#.*//; s/ staticlib:/:/' crates.txt | awk -F ':' '
         print $1 below
     }
 ' >"$scratch/crates" 2>"$scratch/wrong"
+# The crates that simd_cesu8 is built on.
 read -r library < <(sed -n 's/^simd_cesu8 //p' "$scratch/crates")
 
 # The laws of the traits in these files, and the laws of std that something here proves, one a line

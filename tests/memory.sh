@@ -2,9 +2,10 @@
 # Counts the allocations of each public call of `simd_cesu8`, `java_text` and `cesu8_stream`, and makes
 # each of them fail. tests/requests.sh does this for the built program.
 #
-# The rows below are every public call, on inputs that are borrowed, converted, rejected and empty, and
-# at lengths near the borders of blocks. A row has the expected result and the number of allocations.
-# Both come from the standards' table of encoded characters in crates/test_cases, and these rules:
+# The rows below cover every public call, on inputs that are borrowed, converted, rejected and
+# empty, and at lengths near the borders of blocks. A row has the expected result and the number of
+# allocations. Both come from the standards' table of encoded characters in crates/test_cases, and
+# these rules:
 # - a result is borrowed, without an allocation, exactly when its bytes are the input's;
 # - a call allocates once to build or copy a result, or to reject input, and once to append to a buffer
 #   that is full;
@@ -16,8 +17,8 @@
 # The proved program of crates/memory_calls makes the calls that its standard input names, on one input. It
 # prints each result, and how many of three further allocations succeed before one fails. tests/requests.c,
 # which is loaded between the program and the C library, makes one allocation of a process fail: here always
-# the third of `main`, which makes some itself before it. (`rt try` could do that without proof, but takes a
-# tenth of a second for each process.)
+# the third of `main`. How many `main` makes before the calls decides which one of a call that is.
+# (`rt try` could do that without proof, but takes a tenth of a second for each process.)
 #
 # Each allocation of a call fails in turn. Then the call must return out of memory for any input, a
 # caller's buffer must keep its content, and what a failed copy borrows must still be there. Each call is
@@ -67,7 +68,8 @@ pattern() {
     sed -n "/^const $1:/,/;\$/s/.*b\"\\(.*\\)\".*/\\1/p" "$top/crates/test_cases/src/pattern.rt"
 }
 
-# A row: `row CALL INPUT OUTCOME REQUESTS BYTES`, the call with its encoding.
+# A row: `row CALL INPUT OUTCOME REQUESTS BYTES`. CALL, which includes the encoding, must make
+# REQUESTS allocations, and print OUTCOME and then BYTES.
 row() {
     local number=${numbers[:$2]-} call=$1 printed=$3$'\n'$5$'\n'
     if [[ -z $number ]]; then
@@ -176,7 +178,8 @@ encode_rows() {
     done
 }
 
-# Those that copy or append it.
+# Those that copy it, and those that append it: to a buffer without capacity, to one with enough
+# space (`room`), to a full one of two bytes (`full`), and to one that is a byte too small (`less`).
 append_rows() {
     local encoding encoded length any less grown
     for encoding in "$@"; do
@@ -457,10 +460,10 @@ border_rows() {
     damaged_read_rows
 }
 
-# The longest inputs, and the longest Java string. Every character needs conversion, and each block ends
-# in another part of one.
+# The longest inputs, and the longest Java strings. In most inputs every character needs conversion.
 long_rows() {
     local bytes
+    # 16,380 bytes of UTF-8.
     keep_pattern changes 819
     encode_rows cesu8 mutf8
     text 16384 U+1F496
@@ -505,8 +508,9 @@ refuse() {
     esac
 }
 
-# Adds a process that makes these calls, one a line, on an input. BEFORE allocations are made before the
-# one that fails: `process NAME CALLS INPUT BEFORE PRINTED MORE`.
+# Adds a process that makes these calls, one a line, on an input. BEFORE of their allocations
+# succeed. `main` makes 2 - BEFORE first, so that the next one fails. MORE succeed after the calls:
+# `process NAME CALLS INPUT BEFORE PRINTED MORE`.
 process() {
     local calls=${2%$'\n'} file
     processes=$((processes + 1))
@@ -563,8 +567,8 @@ run_case() {
         2>"$scratch/said" 9>"$scratch/requests"
 }
 
-# Sets `refused` to the number of the third allocation of `main`. The three that the program makes at its end
-# are the only ones of `main` here, so it is the number of all.
+# Sets `refused` to the number of the third allocation of `main`. The call here allocates nothing,
+# so `main` makes only the three at its end, and the third is the last one of the process.
 find_refused() {
     printf '0 utf16_len cesu8\na' >"$scratch/cases/none"
     run_case 0 none || { cat "$scratch/said"; exit 2; }

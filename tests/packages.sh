@@ -3,16 +3,17 @@
 # uses them there: it links the example in C with the static library and with the shared object, with the
 # compiler alone, with pkg-config and with CMake, and runs the programs. Then it removes them.
 #
-# It also tests that packages.sh builds the same bytes again; that no file is in two packages; the hashes,
-# owners, modes and times; and the needed symbols and C library, by comparing them with the files
-# themselves and with what dpkg-gensymbols and dpkg-shlibdeps find. `lintian` must report no error.
+# It also tests that release/packages.sh builds the same bytes again; that no file is in two
+# packages; the hashes, owners, modes and times; and the needed symbols and C library, by comparing
+# them with the files themselves and with what dpkg-gensymbols and dpkg-shlibdeps find. `lintian`
+# must report no error.
 #
 # The packages for arm64 are installed together with those for amd64, also with apt, and used there as C.md
 # says, in an emulator.
 #
-# RELEASE names the folder that dist.sh has filled; if it is not set, dist.sh is run. Without dpkg-deb the
-# script skips everything and says so; it also says which other tools are missing. The status is 0 if
-# nothing is wrong. It needs what tests/release.sh needs.
+# RELEASE names the folder that release/dist.sh has filled; if it is not set, this script runs
+# dist.sh. Without dpkg-deb it skips everything and says so; it also says which other tools are
+# missing. The status is 0 if nothing is wrong. It needs what tests/release.sh needs.
 # shellcheck source=tests/lib.sh
 source "$(dirname "${BASH_SOURCE[0]}")/lib.sh" || exit 2
 umask 022
@@ -86,7 +87,7 @@ files_of() {
     (cd "$scratch/$1" && find . -path ./DEBIAN -prune -o -not -type d -printf '%P\n' | sort)
 }
 
-# Prints the expected files of a package, apart from those whose names are read from the release:
+# Prints the expected files of a package, with the examples and man pages that the release has:
 # `wanted_files NAME`.
 wanted_files() {
     local doc=usr/share/doc/$1 file

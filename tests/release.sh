@@ -1,5 +1,5 @@
-# The release that dist.sh makes, for the scripts that use it. A script sources this file after
-# tests/lib.sh.
+# The release that release/dist.sh makes, for the scripts that use it. A script sources this file
+# after tests/lib.sh.
 # shellcheck shell=bash disable=SC2034,SC2154
 
 version=$(<"$top/VERSION")
@@ -8,8 +8,8 @@ name=cesu8-$version-x86_64-linux
 cross_name=cesu8-$version-aarch64-linux
 
 # Sets `release`, the folder that dist.sh has filled, `unpacked`, the folder that its archive holds,
-# and `seconds`, the time of its commit. If RELEASE names no such folder, it runs dist.sh. If a tool
-# that this needs is missing, WHAT is skipped: `find_release WHAT`.
+# and `seconds`, the time of its commit. If RELEASE is not set, it runs dist.sh. If a tool that this
+# needs is missing, WHAT is skipped: `find_release WHAT`.
 find_release() {
     local tool
     release=${RELEASE-}

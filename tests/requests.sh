@@ -26,8 +26,8 @@ io='cesu8: input or output failed'
 memory='cesu8: out of memory'
 : >"$scratch/nothing"
 
-# Writes the input and the expected output to files, or a line if no output is expected. Both are in the
-# form of `printf %b`: `keep INPUT ANSWER`.
+# Writes the input and the expected output to files. Both are in the form of `printf %b`:
+# `keep INPUT ANSWER`.
 keep() {
     printf '%b' "$1" >"$scratch/input"
     printf '%b' "$2" >"$scratch/wanted"

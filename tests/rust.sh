@@ -1,8 +1,9 @@
 #!/usr/bin/env bash
-# Tests the Rust crate: the eraser's rules, and the packages that rust/make.sh makes:
-# - each level, and the plain form, beside a codec by the standards' tables, on hostile inputs, with
-#   debug assertions and overflow checks; the cases of tests/cli_cases.txt; allocations, types and
-#   borrowing; the examples of the documentation;
+# Tests the Rust crate: the rules by which rust/erase.py (the eraser) removes the contracts, and the
+# packages that rust/make.sh makes:
+# - each level, and the plain form, which has no vectors, beside a codec by the standards' tables,
+#   on hostile inputs, with debug assertions and overflow checks; the cases of tests/cli_cases.txt;
+#   allocations, types and borrowing; the examples of the documentation;
 # - the same calls beside the library for C of RELEASE, optimized;
 # - a build for x86-64-v3, one that leaves out v3, one without std, and one with the feature simdutf8,
 #   over a crate of that name and API that stands in, since no registry is asked;
@@ -12,14 +13,14 @@
 # - programs as a user writes them, from the .crate files of RELEASE, offline: the dependency in one
 #   line, [patch.crates-io], panic = "abort", fat LTO, a static relocation model;
 # - no warning of rustc, rustdoc, clippy and cargo package, and rustfmt of what is written by hand;
-# - that the v3 code of the pass puts no vector together byte by byte.
+# - that the v3 code of the decoder's pass puts no vector together byte by byte.
 #
-# RELEASE names the folder that dist.sh has filled; without it the crates come from rust/make.sh,
-# and nothing is compared with the library for C. It says what it skipped. It needs cargo and
-# python3, bash, awk, sed, tar and the core utilities; without cargo or python3 it skips everything.
-# The status is 0 if nothing is wrong.
+# RELEASE names the folder that release/dist.sh has filled; without it the crates come from
+# rust/make.sh, and nothing is compared with the library for C. It says what it skipped. It needs
+# cargo and python3, bash, awk, sed, tar and the core utilities; without cargo or python3 it skips
+# everything. The status is 0 if nothing is wrong.
 #
-#   rust.sh [--inputs N]    N inputs for each comparison, in place of few
+#   rust.sh [--inputs N]    N inputs for each comparison, in place of the numbers below
 unset "${!CARGO_@}" RUSTFLAGS
 # shellcheck source=tests/lib.sh
 source "$(dirname "${BASH_SOURCE[0]}")/lib.sh" || exit 2
@@ -46,8 +47,9 @@ packages=$scratch/packages
 crate=$packages/cesu8_rattle-$version
 # What rustc takes for the level x86-64-v3.
 v3_flags='-C target-cpu=x86-64-v3'
-# Runs cargo in the crate: `in_crate ARGUMENT..`. What is built is kept in $scratch/NAME of
-# `target`. What cargo writes for a debugger and for later builds would double the time of a debug build.
+# Runs cargo in the crate: `in_crate ARGUMENT..`. It builds in the folder of $scratch that `target`
+# names. What cargo writes for a debugger and for later builds would double the time of a debug
+# build.
 in_crate() {
     (cd "$crate" && CARGO_INCREMENTAL=0 CARGO_PROFILE_DEV_DEBUG=0 \
         CARGO_TARGET_DIR=$scratch/${target:-target} quietly cargo "$@")
@@ -57,8 +59,8 @@ in_crate() {
 lay_out() {
     local name
     mkdir -p "$packages/.cargo" || exit 2
-    # Where no registry is asked, the optional dependency has to be somewhere for a test of the
-    # crate. A program that depends on it needs no such line.
+    # Without a registry, cargo needs a folder for the optional dependency to test the crate itself.
+    # A program that depends on the crate needs no such line.
     printf '%s\n' '[patch.crates-io]' "simdutf8 = { path = \"$top/rust/tests/simdutf8\" }" \
         >"$packages/.cargo/config.toml" || exit 2
     if [[ -z ${RELEASE-} ]]; then
@@ -126,10 +128,10 @@ test_levels() {
     fi
 }
 
-# Builds other forms of the crate. That for x86-64-v3 takes least, so it is the one that is compared
-# with the library for C, if this processor has its level. Its assembly is also written, for
-# `look_at_assembly`. The other forms differ in which code a call chooses, and `test_levels` tests that
-# code on many inputs, so they are tested on few.
+# Builds other forms of the crate. That for x86-64-v3 takes the least time, so it is the one that is
+# compared with the library for C, if this processor has its level. Its assembly is also written,
+# for `look_at_assembly`. The other forms differ in which code a call chooses, and `test_levels`
+# tests that code on many inputs, so they are tested on few.
 test_forms() {
     local compared=(test --release --test c_library --test cases --test surface)
     local flags="$v3_flags --emit asm"
@@ -186,7 +188,8 @@ test_old_compiler() {
     emulate i386 i686-unknown-linux-gnu qemu-i386-static
 }
 
-# The sanitizer sees what the shim reads and writes, at each level.
+# The sanitizer sees what the shim, which takes the place of Rattle's standard library, reads and
+# writes by unsafe code at each level.
 test_addresses() {
     if ! cargo +nightly --version >/dev/null 2>&1 || [[ $(uname -m) != x86_64 ]]; then
         echo 'no nightly cargo for x86-64: the address sanitizer skipped'
@@ -242,7 +245,7 @@ look_at_style() {
         echo 'rustfmt is missing: skipped'
         return
     fi
-    # By standard input, since rustfmt would look for the modules that are made.
+    # By standard input: otherwise rustfmt would look for the modules that only rust/make.sh writes.
     while read -r file; do
         rustfmt --edition 2024 --config-path "$top/rust/rustfmt.toml" <"$file" >"$scratch/formatted"
         cmp -s "$file" "$scratch/formatted" || wrong "${file#"$top/"} is not what rustfmt makes of it"
@@ -250,7 +253,8 @@ look_at_style() {
     pass
 }
 
-# Of arrays that overlap, rustc may make copies byte by byte.
+# rustc may take apart an array of 16 bytes that is passed by value, byte by byte. The eraser's rule
+# "array by reference" avoids that.
 look_at_assembly() {
     if [[ $(uname -m) != x86_64 ]]; then
         echo 'not x86-64: the assembly skipped'

@@ -3,7 +3,8 @@
 #   rust_1_85.sh FOLDER
 # With it come the libraries of Rust and C for arm64 and i386, and emulators of both, with which
 # tests/rust.sh tests the crate for these, if ld.lld is there. It prints the name of a script in
-# FOLDER, for RUSTC_1_85 of tests/rust.sh. FOLDER takes 1.3 GB. It needs what tests/debian.sh does.
+# FOLDER, for RUSTC_1_85 of tests/rust.sh. FOLDER then has 1.3 GB. It needs what tests/debian.sh
+# needs.
 set -euo pipefail
 unset CDPATH
 

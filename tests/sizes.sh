@@ -10,9 +10,10 @@
 # twentieth above its line, or more than a twentieth below it, since the line then needs an update. It also
 # fails if the table of docs/C.md has other numbers than the lines.
 #
-# RELEASE names the folder that dist.sh has filled; if it is not set, this script runs dist.sh. Without a
-# compiler and an emulator for aarch64 (tests/cross.sh), it skips aarch64, and on a processor without
-# x86-64-v3 the stack; it says so. The status is 0 if nothing is wrong. It needs what tests/release.sh needs.
+# RELEASE names the folder that release/dist.sh has filled; if it is not set, this script runs
+# dist.sh. Without a compiler and an emulator for aarch64 (tests/cross.sh), it skips aarch64, and on
+# a processor without x86-64-v3 the stack; it says so. The status is 0 if nothing is wrong. It needs
+# what tests/release.sh needs.
 # shellcheck source=tests/lib.sh
 source "$(dirname "${BASH_SOURCE[0]}")/lib.sh" || exit 2
 crate=$top/crates/cesu8_c
@@ -142,7 +143,7 @@ fi
 {
     compare 3 'code and constants' 0
     if grep -qw avx2 /proc/cpuinfo; then
-        # Another compiler of the chooser saves other registers.
+        # Another compiler may save other registers in chooser.c, so 64 bytes are allowed.
         compare 4 stack 64
     else
         echo 'the processor has no AVX2: the stack of calls skipped' >&2

@@ -1,8 +1,9 @@
 #!/usr/bin/env bash
-# Makes a new repository with a copy of the libraries, made by vendor.sh, and two crates, one of them with a
-# proof that cites a clause and a law. It proves and runs them. It tests that the copy has the needed files
-# and no others, and no tests, that git ignores everything that `rt` made, and that a second copy changes
-# nothing. The status is 0 if nothing is wrong.
+# Makes a new repository with a copy of the libraries, made by release/vendor.sh, and two crates,
+# one of them with a proof that cites a clause and a law. It proves and runs them. It tests that the
+# copy has the needed files and no others, and no tests; that git ignores everything that `rt` made;
+# that a second copy changes nothing; and which folders vendor.sh rejects. The status is 0 if
+# nothing is wrong.
 #
 # The script reuses what is proved here of the same sources. In a clean clone that is nothing, and proving
 # takes minutes.

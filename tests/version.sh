@@ -1,11 +1,11 @@
 #!/usr/bin/env bash
 # Compares the file VERSION with every place that names the version: the macros of the header for C,
-# the nodes of the version map, the first heading of CHANGELOG.md with a version, and on the pages
-# the names of archives and of the shared object, and the version that CMake is asked for. The files
-# of release/package get the version from dist.sh, so they name none, and the man page,
-# the archive's README and the files for pkg-config and CMake have a placeholder for it. It prints
-# each difference. The status is 0 if there is none. It needs bash, grep, sed and the core
-# utilities.
+# the nodes of the version map, the first heading of CHANGELOG.md with a version, the packages for
+# Python, Rust and Debian, and on the pages the names of archives, of packages and of the shared
+# object, and the version that CMake is asked for. The files of release/package get the version from
+# release/dist.sh, so they name none, and the man page, the archive's README and the files for
+# pkg-config and CMake have a placeholder for it. It prints each difference. The status is 0 if
+# there is none. It needs bash, grep, sed and the core utilities.
 set -u
 unset CDPATH
 export LC_ALL=C

@@ -9,11 +9,11 @@
 # address sanitizer, and the wheel for aarch64 in the Python of AARCH64_ROOT (tests/cross.sh), in an
 # emulator.
 #
-# RELEASE names the folder that dist.sh has filled; if it is not set, this script runs dist.sh. If
-# python3 with venv or the header that dist.sh needs is missing, it says that it skipped everything.
-# If Java, a debug build, valgrind, the sanitizer or a tool for aarch64 is missing, it says what it
-# skipped. The status is 0 if nothing is wrong. It needs readelf, nm, and what tests/release.sh
-# needs.
+# RELEASE names the folder that release/dist.sh has filled; if it is not set, this script runs
+# dist.sh. If python3 with venv or the header that dist.sh needs is missing, it says that it skipped
+# everything. If Java, a debug build, valgrind, the sanitizer or a tool for aarch64 is missing, it
+# says what it skipped. The status is 0 if nothing is wrong. It needs readelf, nm, and what
+# tests/release.sh needs.
 unset "${!PYTHON@}"
 # shellcheck source=tests/lib.sh
 source "$(dirname "${BASH_SOURCE[0]}")/lib.sh" || exit 2
@@ -92,7 +92,7 @@ look_at_tag() {
 functions_of() {
     local text
     text=$(readelf -SW "$1" | sed -n 's/.* \.text *PROGBITS *\([0-9a-f]*\) .*/\1/p')
-    # The functions before that are the linker's.
+    # The functions before the section .text are the linker's.
     readelf -wf "$1" | sed -n 's/.* FDE .* pc=\([0-9a-f]*\)\.\..*/\1/p' |
         awk -v text="$text" '$1 "" >= text ""'
 }

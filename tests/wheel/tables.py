@@ -30,7 +30,7 @@ BORDERS = [
     (0x10FFFF, "F4 8F BF BF", "ED AF BF ED BF BF", "ED AF BF ED BF BF"),
 ]
 
-# Eight characters of each width and kind: the text, its UTF-8, its CESU-8 and its MUTF-8.
+# A text with two characters of each width in UTF-8: the text, its UTF-8, its CESU-8 and its MUTF-8.
 PATTERN = (
     "a\u0205\u20ac\U00010400\0\u07ff\uffff\U0001f496",
     "61 C8 85 E2 82 AC F0 90 90 80 00 DF BF EF BF BF F0 9F 92 96",

@@ -31,6 +31,7 @@ class Tables(unittest.TestCase):
     def test_pattern(self) -> None:
         text, _, *encodings = tables.PATTERN
         for encoding, encoded in zip(model.ENCODINGS, map(bytes.fromhex, encodings)):
+            # 819 times the text has 16,380 bytes of UTF-8.
             for count in (0, 1, 819):
                 self.assertEqual(cesu8.encode(count * text, encoding), count * encoded)
                 self.assertEqual(cesu8.decode(count * encoded, encoding), count * text)

@@ -66,7 +66,7 @@ class Decoding(unittest.TestCase):
     def test_handlers(self) -> None:
         rows = [bytes.fromhex(row) for row, *_ in tables.DAMAGE]
         rows += [b"start" + row + b"end" for row in rows] + [row + row for row in rows]
-        # Damage at the borders of the parts in which it is searched for.
+        # Damage near offset 4,096: the library decodes longer input in chunks.
         rows += [b"a" * count + row for count in (4090, 4095, 4096, 4097) for row in rows[:12]]
         # A zero byte, which is damage in MUTF-8 alone, among other damage.
         rows += [b"\xff\0\xff\xed\0a", 600 * b"\xff" + b"\0" + 600 * b"\xff"]

@@ -9,6 +9,7 @@ from pathlib import Path
 
 import cesu8
 
+# The numbers 0x1000 and 0x1800 below are COUNT and STEP of Strings.java.
 FOLDER = os.environ.get("JAVA_STRINGS")
 
 

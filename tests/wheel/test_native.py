@@ -133,6 +133,8 @@ class Results(unittest.TestCase):
             text = 200 * (tables.R + "\U0001f496")
             self.assertEqual(decode(data, "replace"), (text, len(data)))
 
+    # next_text(is_mutf8, data, start, stop) decodes up to `stop` or to the first damage, and
+    # returns the text and the offset where it ends.
     def test_next_text(self) -> None:
         data = b"\xffdata\xff"
         for start in range(-1, 8):

@@ -21,6 +21,7 @@ import cesu8
 FOLDER = Path(cesu8.__file__).parent
 
 
+# A program for mypy, which must find an error in each line that ends in `# wrong`, and no other.
 PROGRAM = """\
 import array
 import functools

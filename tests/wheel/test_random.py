@@ -1,5 +1,6 @@
 """Random cases, compared with the plain model, with Python's handlers and one of a user's own.
-CASES is their number, and SEED the seed: without it they are the same each time."""
+The environment variable CASES is their number, and SEED the seed: without SEED they are the same
+each time."""
 
 from __future__ import annotations
 
