@@ -10,7 +10,7 @@ mod counts;
 
 use crate::lanes::masks::STEP;
 use crate::needs_conversion::begins_changed;
-use crate::prefix::unchanged_prefix;
+use crate::prefix::unchanged_prefix_by_call;
 use crate::strategy::is_one_block;
 use crate::valid::is_ill_formed;
 use cesu8_bytes::flavor::Flavor;
@@ -26,7 +26,7 @@ pub fn decoded_len<F: Flavor>(bytes: &[u8]) -> Option<usize>
         ReadsAtLength (IsStrictReading F.flavor bytes.now) (λ text_len. len ≡ text_len)) }
     ensures none { IfNone result (HasNoStrictReading F.flavor bytes.now) }
 {
-    let prefix = unchanged_prefix::<F>(bytes).len;
+    let prefix = unchanged_prefix_by_call::<F>(bytes).len;
     let rest = &bytes[prefix..];
     if rest.is_empty() {
         return Some(prefix);

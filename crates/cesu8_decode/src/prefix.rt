@@ -15,21 +15,57 @@ pub mod window;
 
 use crate::lanes::character_set::{CharacterSet, DECIDING, Unchanged};
 use crate::lanes::following::{block_after, following_len, two_follow};
+use crate::lanes::padded::padded;
+use crate::strategy::is_one_block;
 use cesu8_bytes::BLOCK;
 use cesu8_bytes::flavor::Flavor;
 use cesu8_bytes::lanes::class::{Either, LANES, NonAscii};
+use cesu8_bytes::lanes::padded::padded_half;
 use cesu8_bytes::lanes::runs::run_of_groups;
 use cesu8_bytes::lanes::short::are_short;
 use std::simd::prelude::*;
 pub use window::UnchangedPrefix;
 use window::prefix_by_window;
 
+/// Returns the unchanged prefix.
 #[inline(always)]
 pub fn unchanged_prefix<F: Flavor>(bytes: &[u8]) -> UnchangedPrefix
     ensures { IsUnchangedPrefix F.flavor bytes.now result }
 {
+    if is_one_block(bytes) {
+        return prefix_by_window::<F, BLOCK>(bytes, padded_half(bytes));
+    }
+    prefix_of_more::<F>(bytes)
+}
+
+/// Like `unchanged_prefix`. It is not inlined, so that its callers are small, and returns two
+/// words, which fit in registers. More than 32 bytes take another call, so that at most 32 have few
+/// registers to save.
+#[inline(never)]
+pub fn unchanged_prefix_by_call<F: Flavor>(bytes: &[u8]) -> UnchangedPrefix
+    ensures { IsUnchangedPrefix F.flavor bytes.now result }
+{
+    if is_one_block(bytes) {
+        return prefix_by_window::<F, BLOCK>(bytes, padded_half(bytes));
+    }
+    prefix_of_more_by_call::<F>(bytes)
+}
+
+/// Calls `prefix_of_more`, whose code is long.
+#[inline(never)]
+fn prefix_of_more_by_call<F: Flavor>(bytes: &[u8]) -> UnchangedPrefix
+    ensures { IsUnchangedPrefix F.flavor bytes.now result }
+{
+    prefix_of_more::<F>(bytes)
+}
+
+/// Like `unchanged_prefix`, for more than 32 bytes.
+#[inline(always)]
+fn prefix_of_more<F: Flavor>(bytes: &[u8]) -> UnchangedPrefix
+    ensures { IsUnchangedPrefix F.flavor bytes.now result }
+{
     if are_short(bytes) {
-        return prefix_by_window::<F>(bytes);
+        return prefix_by_window::<F, LANES>(bytes, padded(bytes));
     }
     UnchangedPrefix {
         len: longest_prefix::<F, Unchanged>(bytes),
@@ -37,18 +73,9 @@ pub fn unchanged_prefix<F: Flavor>(bytes: &[u8]) -> UnchangedPrefix
     }
 }
 
-/// Like `unchanged_prefix`. It is not inlined, so that its callers are small, and returns two
-/// words, which fit in registers.
-#[inline(never)]
-pub fn unchanged_prefix_by_call<F: Flavor>(bytes: &[u8]) -> UnchangedPrefix
-    ensures { IsUnchangedPrefix F.flavor bytes.now result }
-{
-    unchanged_prefix::<F>(bytes)
-}
-
 /// Returns the length of the longest prefix of whole characters of a set. The input has more than
-/// 64 bytes.
-#[inline(always)]
+/// 64 bytes. It is not inlined, since it is long.
+#[inline(never)]
 pub fn longest_prefix<F: Flavor, S: CharacterSet>(bytes: &[u8]) -> usize
     requires { LANES < length bytes.now }
     ensures { IsLongestPrefix S.set F.flavor bytes.now result }
@@ -58,8 +85,8 @@ pub fn longest_prefix<F: Flavor, S: CharacterSet>(bytes: &[u8]) -> usize
 
 /// Returns the offset of the first byte that cannot follow the bytes before it, or the length if
 /// there is none. The input has more than 64 bytes. It first skips whole groups of unchanged ASCII,
-/// or else tests one block. It is not inlined, since it is long.
-#[inline(never)]
+/// or else tests one block.
+#[inline(always)]
 fn following_many<F: Flavor, S: CharacterSet>(bytes: &[u8]) -> usize
     requires { LANES < length bytes.now }
     ensures { FollowUpTo S.set F.flavor bytes.now result }

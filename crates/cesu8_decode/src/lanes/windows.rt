@@ -4,7 +4,7 @@
 //! byte that no character covers is ill-formed. The next window begins where the last character of
 //! this one ends, so a window depends on nothing before it.
 
-ghost use Rattle.std.specs.Prelude.{◌≡◌, ℕ, List, ◌+◌, ◌<◌, ◌≤◌, ◌⊎◌, true, length, slice_index};
+ghost use Rattle.std.specs.Prelude.{◌≡◌, ℕ, List, ◌+◌, ◌-◌, ◌++◌, ◌<◌, ◌≤◌, ◌⊎◌, true, length, replicate, slice_index};
 ghost use Rattle.cesu8_decode.specs.DecodedOffsets.{is_boundary_at, window_of};
 ghost use Rattle.cesu8_decode.specs.Masks.{IsWindow};
 
@@ -53,15 +53,25 @@ pub fn window_of_short<F: Flavor>(bytes: &[u8]) -> Window
     ensures window { (is : IsWindow F.flavor bytes.now 0 result) × (is.n ≡ length bytes.now) }
     ensures len { result.len ≡ length bytes.now }
 {
-    let window = if is_one_block(bytes) {
-        window_of_lanes::<F, BLOCK>(padded_half(bytes), bytes.len())
+    if is_one_block(bytes) {
+        window_of_padded::<F, BLOCK>(bytes, padded_half(bytes))
     } else {
-        window_of_lanes::<F, LANES>(padded(bytes), bytes.len())
-    };
+        window_of_padded::<F, LANES>(bytes, padded(bytes))
+    }
+}
+
+/// Returns the window of the whole input, which the lanes are, padded with zeros.
+#[inline(always)]
+pub fn window_of_padded<F: Flavor, const N: usize>(bytes: &[u8], lanes: Simd<u8, N>) -> Window
+    requires few { (length bytes.now ≤ N) × (N ≤ LANES) }
+    requires lanes { lanes ≡ bytes.now ++ replicate (N - length bytes.now) 0 }
+    ensures window { (is : IsWindow F.flavor bytes.now 0 result) × (is.n ≡ length bytes.now) }
+    ensures len { result.len ≡ length bytes.now }
+{
     // The length is known, so the compiler drops the code that finds it.
     Window {
         len: bytes.len(),
-        ..window
+        ..window_of_lanes::<F, N>(lanes, bytes.len())
     }
 }
 

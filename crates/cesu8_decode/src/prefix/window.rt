@@ -3,12 +3,13 @@
 //! It ends at the first event, an ill-formed byte or a character that needs conversion: the bytes
 //! before the first event are whole unchanged characters, and no longer prefix is.
 
-ghost use Rattle.std.specs.Prelude.{◌≤◌, length};
+ghost use Rattle.std.specs.Prelude.{◌≡◌, ◌≤◌, ◌-◌, ◌++◌, length, replicate};
 ghost use Rattle.cesu8_decode.specs.Prefixes.{IsUnchangedPrefix};
 
-use crate::lanes::windows::window_of_short;
+use crate::lanes::windows::window_of_padded;
 use cesu8_bytes::flavor::Flavor;
 use cesu8_bytes::lanes::class::LANES;
+use std::simd::prelude::*;
 
 /// The unchanged prefix of some bytes.
 #[derive(Clone, Copy)]
@@ -21,13 +22,17 @@ pub struct UnchangedPrefix {
 }
 
 /// Returns the unchanged prefix of at most 64 bytes, and which characters need conversion if no
-/// byte is ill-formed.
+/// byte is ill-formed. The lanes are the bytes, padded with zeros.
 #[inline(always)]
-pub fn prefix_by_window<F: Flavor>(bytes: &[u8]) -> UnchangedPrefix
-    requires { length bytes.now ≤ LANES }
+pub fn prefix_by_window<F: Flavor, const N: usize>(
+    bytes: &[u8],
+    lanes: Simd<u8, N>,
+) -> UnchangedPrefix
+    requires few { (length bytes.now ≤ N) × (N ≤ LANES) }
+    requires lanes { lanes ≡ bytes.now ++ replicate (N - length bytes.now) 0 }
     ensures { IsUnchangedPrefix F.flavor bytes.now result }
 {
-    let window = window_of_short::<F>(bytes);
+    let window = window_of_padded::<F, N>(bytes, lanes);
     let changed = window.pairs | window.nulls;
     let first = (window.ill_formed | changed).trailing_zeros() as usize;
     UnchangedPrefix {

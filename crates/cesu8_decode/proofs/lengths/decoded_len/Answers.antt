@@ -20,11 +20,11 @@ pub returns-then-is_empty-clause-some : goal.returns-then-is_empty-clause-some
 returns-then-is_empty-clause-some g c =
     let f = g.F.Flavor.flavor in
     let bytes = c.args.bytes.now in
-    let n = c.unchanged_prefix-prefix.result.len in
+    let n = c.unchanged_prefix_by_call-prefix.result.len in
     let none : length (drop n bytes) ≡ 0 = eqb-true _ _ (sym (rw take_rest at c.is_empty.ensures) ∙ c.if-is_empty.true) in
-    let all : n ≡ length bytes = omega (arith, none, length-drop n bytes, c.unchanged_prefix-prefix.ensures.len.within) in
+    let all : n ≡ length bytes = omega (arith, none, length-drop n bytes, c.unchanged_prefix_by_call-prefix.ensures.len.within) in
     of_length (IsStrictReading f bytes) (λ len. n ≡ len) _ bytes
-    (only_kept f bytes _ _ _ (encoding_texts f bytes) Strict ((all_unchanged f bytes n c.unchanged_prefix-prefix.ensures.len).0 all)) all
+    (only_kept f bytes _ _ _ (encoding_texts f bytes) Strict ((all_unchanged f bytes n c.unchanged_prefix_by_call-prefix.ensures.len).0 all)) all
 
 -- No character that needs conversion follows the prefix, or a byte after it is ill-formed. In both
 -- cases there is no strict reading.
@@ -32,16 +32,16 @@ pub returns-then-not-begins_changed-clause-none : goal.returns-then-not-begins_c
 returns-then-not-begins_changed-clause-none g c =
     let f = g.F.Flavor.flavor in
     let bytes = c.args.bytes.now in
-    let n = c.unchanged_prefix-prefix.result.len in
+    let n = c.unchanged_prefix_by_call-prefix.result.len in
     let tells = rw take_rest at c.begins_changed.ensures in
     let more : n < length bytes =
     omega (arith, eqb-false _ _ (sym (rw take_rest at c.is_empty.ensures) ∙ c.if-is_empty.false), length-drop n bytes) in
     elim c.then-not-begins_changed.branch [
       | then-not-begins_changed-via-then-not-begins_changed w ↦
-          unless_begun f bytes n c.unchanged_prefix-prefix.ensures.len
+          unless_begun f bytes n c.unchanged_prefix_by_call-prefix.ensures.len
           (λ begun. both_ways c.begins_changed.result w.if-not-begins_changed.true (tells.1 begun)) more
       | then-not-begins_changed-via-else-not-begins_changed+then-is_ill_formed w ↦
-          none_before f bytes (drop n bytes) (take n bytes) (unchanged_prefix_chunk f bytes n c.unchanged_prefix-prefix.ensures.len Strict)
+          none_before f bytes (drop n bytes) (take n bytes) (unchanged_prefix_chunk f bytes n c.unchanged_prefix_by_call-prefix.ensures.len Strict)
           (rw take_rest at (w.is_ill_formed.ensures.ill_formed w.if-is_ill_formed.true))
     ]
 
@@ -56,14 +56,14 @@ unfolding lossy_length
 returns-clause-some g c =
     let f = g.F.Flavor.flavor in
     let bytes = c.args.bytes.now in
-    let n = c.unchanged_prefix-prefix.result.len in
+    let n = c.unchanged_prefix_by_call-prefix.result.len in
     let rest = drop n bytes in
     let whole = rw take_rest at (c.is_ill_formed.ensures.whole c.if-is_ill_formed.false) in
     of_sum (IsStrictReading f bytes) _ _ _
-    (only_after f bytes rest (take n bytes) (unchanged_prefix_chunk f bytes n c.unchanged_prefix-prefix.ensures.len Strict) (reading f rest) whole)
+    (only_after f bytes rest (take n bytes) (unchanged_prefix_chunk f bytes n c.unchanged_prefix_by_call-prefix.ensures.len Strict) (reading f rest) whole)
     (grind (
       arith,
       ap (lossy_length f) (take_rest bytes n),
       length-append (take n bytes) (utf8 (reading f rest)),
-      length-take-le n bytes c.unchanged_prefix-prefix.ensures.len.within,
+      length-take-le n bytes c.unchanged_prefix_by_call-prefix.ensures.len.within,
     ))
