@@ -1,4 +1,5 @@
--- The results of `encode` and `needs`, and the bytes of a string, from what std promises of them.
+-- The results of the command `encode`, from what the library promises, and the bytes of a string,
+-- from what std promises.
 use Rattle.std.proofs.Common.{◌≡◌, ℕ, List, ◌∙◌, sym, subst, ap, Ok}
 use Rattle.std.specs.Str.{chars, IsUtf8}
 use Rattle.simd_cesu8.specs.Text.{utf8, IsUtf8Of}
@@ -15,8 +16,8 @@ pub encoded : (flavor : FlavorWord) (g : Flavor) (input text bytes : List ℕ) �
     bytes ≡ encoding g text → IsEncodingAnswer (flavor_of flavor) input (Ok bytes)
 encoded flavor g input text bytes is u e = (text, u, e ∙ ap (λ f. encoding f text) (sym is))
 
--- A text needs no encoding in the flavor g that the word names if `encode` allocates nothing for
--- its UTF-8.
+-- A text needs no encoding in the flavor g that the word names if the command promises to allocate
+-- nothing for its UTF-8. Then the library borrows it, so the call cannot fail for want of memory.
 pub needs_none : UnchangedString → (flavor : FlavorWord) (g : Flavor) (input text : List ℕ) → flavor_of flavor ≡ g →
     IsUtf8Of text input → TakesNoMemory (Encode flavor) input → NeedsEncoding g text → ⊥
 needs_none unchanged flavor g input text is u none need =

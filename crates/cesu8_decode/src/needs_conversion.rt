@@ -39,7 +39,8 @@ pub fn changes<F: Flavor>(bytes: &[u8]) -> bool
 }
 
 /// Returns the first eight bytes, which `is_pair` loads as one word. If there are fewer, returns a
-/// copy that is padded with zeros.
+/// copy that is padded with zeros. `IsPrefixOf` and `BeginsChanged` count missing bytes as zeros
+/// too, so the copy begins with a character that needs conversion exactly if the bytes do.
 #[inline(always)]
 pub fn first_eight<'a>(bytes: &'a [u8], padded: &'a mut [u8; PAIR_READ]) -> &'a [u8]
     requires { padded.old ≡ replicate PAIR_READ 0 }

@@ -43,8 +43,8 @@ impl<'a> Read for Reader<'a> {
     }
 }
 
-/// Holds the bytes that it accepts. When it is full, and after a flush, it fails or accepts
-/// nothing.
+/// Holds the bytes that it accepts. When it is full, it fails or accepts nothing. A flush makes it
+/// full, since a program flushes once, after all of its output: a later write is a mistake.
 #[derive(Drop)]
 pub struct Writer {
     bytes: [u8; SIZE],

@@ -1,4 +1,6 @@
 -- A vector whose first lanes are those of one vector, and whose other lanes are those of another.
+-- `join_lanes` in `front_to_slice.rt` makes it of the input and of what a buffer has. It is stored
+-- whole, so the bytes after the copied ones stay as they were.
 use Rattle.std.proofs.Common.{◌≡◌, ℕ, zero, suc, ◌+◌, ◌≤◌, List, [], ◌∷◌, ◌++◌, refl, sym, ap, ◌∙◌, arith, length, map, take, drop, replicate, w8, ltb}
 use Rattle.std.specs.List.{range_with_len}
 use Rattle.std.proofs.lemmas.Bool.Decides.{nat_tests}

@@ -1,5 +1,6 @@
 //! What programs written for `simd_cesu8` 1.2.0 rely on: types, traits, borrowing, allocations.
-//! This package is a drop-in for that published crate, and its library has the same name.
+//! This package is a drop-in for that published crate, and its library has the same name. Also what
+//! it promises beyond that: the calls that 1.2.0 lacks, and how much is allocated.
 
 use std::alloc::{GlobalAlloc, Layout, System};
 use std::borrow::Cow;
@@ -223,8 +224,9 @@ fn empty_slices() {
     assert_eq!(simd_cesu8::encode_to_slice("a", &mut []), Err(SliceError::TooShort { needed: 1 }));
 }
 
-/// Threads that call for the first time together agree. On x86-64 the first call asks which
-/// features the processor has, since these decide which functions later calls use.
+/// Threads that call together agree. On x86-64 the first call asks which features the processor
+/// has, since these decide which functions later calls use. If no other test has called before,
+/// these are the first calls.
 #[test]
 fn first_calls_at_once() {
     let text = "caf\u{E9} \u{1F496}\0".repeat(40);

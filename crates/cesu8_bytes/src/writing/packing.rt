@@ -58,8 +58,9 @@ pub fn second_of(lanes: u8x16) -> u8x16
     lanes.swizzle::<16>([8, 9, 10, 11, 12, 13, 14, 15, 8, 9, 10, 11, 12, 13, 14, 15])
 }
 
-/// Returns the lanes that the lower halves of the row's numbers select. The upper halves are
-/// cleared, since `swizzle_dyn_within` requires a number below 16 for each lane that it selects.
+/// Returns the lanes that the lower halves of the row's numbers select. The upper halves, which no
+/// row has, are cleared because `swizzle_dyn_within` requires a number below 16 for each lane that
+/// it selects.
 #[inline(always)]
 pub fn picked(lanes: u8x16, row: u8x16) -> u8x16
     ensures { result ≡ lanes_at lanes row }

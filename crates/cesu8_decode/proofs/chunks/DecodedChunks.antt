@@ -33,7 +33,9 @@ strict_first_chunk f which bytes n reads = grind (arith, nat_tests, chunk_of_tex
 -- ---- chunks by windows
 
 -- A window that begins with five zeros, the first n bytes and five more. These decide all
--- characters that begin before n. Missing bytes count as zeros.
+-- characters that begin before n. Missing bytes count as zeros. What the definitions say of the
+-- window at offset i is about its byte i + 5, so here about byte i of the bytes. It depends on ten
+-- bytes (a boundary) or eleven (an ill-formed byte).
 abbrev pub IsPaddedFor : ℕ → List ℕ → List ℕ → Type 0
 IsPaddedFor n bytes window =
     (k : ℕ) → k < n + 10 → slice_index window k ≡ slice_index (0 ∷ 0 ∷ 0 ∷ 0 ∷ 0 ∷ bytes) k

@@ -198,7 +198,9 @@ module _ (f : Flavor) (text : List ℕ) where
       take after out ≡ take end old ++ piece → piece ≡ encoded_bytes f around i n → after ≤ length out → IsWritten f text (i + n) out after
   written_after i n end after old out piece written is piece_is within = grind (arith, nat_tests, common_steps, encoded_bytes_append)
 
-  -- The rows of a block fit if at least eight bytes follow it.
+  -- The rows of a block fit if at least eight bytes follow it. A row is stored as 16 bytes. The last
+  -- of the four begins after what is written for the block's first 24 bytes, and at least one byte is
+  -- written for each of the 16 bytes from there on: eight of the block, and eight after it.
   pub rows_fit : (i end : ℕ) (out : List ℕ) → 2 ≤ i → i + 40 ≤ length text → IsWritten f text i out end →
       length (recoded f text) ≤ length out → end + length (encoded_bytes f text (i - 2) 24) + 16 ≤ length out
   rows_fit i end out le within written room =

@@ -1,4 +1,4 @@
--- The lossy reading of the window is written, and no character crosses its end.
+-- The lossy reading of the window is written, and no character crosses its end, whatever follows.
 use Rattle.std.proofs.Common.{take}
 use Rattle.cesu8_stream.proofs.LossyWindows.{window_read}
 use Rattle.cesu8_stream.proofs.lossy_windows.decode_window.Goals as goal

@@ -13,6 +13,7 @@ returns-in_err-text-clause-refused c =
     c.in_err-text.ensures.refused in
     search (rules, none)
 
+-- Two paths of the code end an iteration, both after `Ok` and with the same facts.
 pub loop-rest-preserved-in-Ok : goal.loop-rest-preserved-in-Ok
 loop-rest-preserved-in-Ok c =
     one_copied c.bounds.ensures c.in_turn.ensures.one_more c.loop-rest.invariant c.in_ok-text.ensures.text
