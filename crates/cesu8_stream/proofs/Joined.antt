@@ -29,7 +29,8 @@ joined_written write m n bytes s t append first second = (
   append s t ∙ (λ i. first.1 i ++ second.1 i) ∙ sym (take-add m n bytes),
 )
 
--- What two calls wrote stands at the front of the buffer, joined.
+-- What two calls wrote stands at the front of the buffer, joined. The second call wrote to the rest
+-- of the buffer, which is `new` after it.
 pub joined_front : (a b : List ℕ) (w v : ℕ) (old mid new : List ℕ) → StandsAtFront a w old mid →
     StandsAtFront b v (drop w mid) new → StandsAtFront (a ++ b) (w + v) old (take w mid ++ new)
 joined_front a b w v old mid new first second =
