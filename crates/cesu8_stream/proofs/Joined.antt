@@ -1,4 +1,5 @@
--- What two calls, one after the other, read and wrote, as if they were one call.
+-- What two calls, one after the other, read and wrote, as if they were one call: for instance the
+-- steps of `convert_rest` (src/engine.rt).
 use Rattle.std.proofs.Common.{◌≡◌, ℕ, ◌+◌, ◌-◌, ◌≤◌, List, [], ◌∷◌, ◌++◌, refl, sym, ap, ◌∙◌, arith, length, take, drop, append_assoc, length-append, length-drop}
 use Rattle.std.proofs.lemmas.Grind.{common_steps}
 use Rattle.std.proofs.lemmas.List.{take_rest}
