@@ -5,6 +5,7 @@ use crate::grid::{Column, Grid, Unit};
 use crate::inputs::{Case, Inputs};
 use crate::sets::{Kind, text_of};
 
+// 16,380 is `INPUT_LENGTH` of sets.rs, a multiple of the lengths of the kinds' patterns.
 const LENGTHS: [usize; 5] = [24, 200, 1_024, 16_380, 16_777_212];
 
 pub fn heading(flavor: Flavor) -> String {

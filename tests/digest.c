@@ -2,10 +2,10 @@
 // inputs. tests/aarch64.sh compares the line on aarch64 with that on x86-64.
 //
 // An input has a length from 0 to 300. It consists of one of the texts below, and ends with a whole
-// character. At each offset it has three of the faults, in turn. The input is also placed at odd
-// addresses, and so is the buffer, which is large enough for two of three inputs and has half of that for
-// the third. Each input is passed to a quarter of the calls, in turn, since even these take an emulator a
-// minute. So each call gets an input of each length with a fault at each offset.
+// character. At each offset it has three of the faults, in turn. The input and the buffer also
+// begin at odd addresses. The buffer is large enough for two of three inputs, and has half of that
+// for the third. Each input is passed to a quarter of the calls, in turn, since even these take an
+// emulator a minute. So each call gets an input of each length with a fault at each offset.
 
 #include "cesu8.h"
 

@@ -59,8 +59,8 @@ inputs=()
 silent=()
 asking=()
 
-# The number of each input. By this number and the call: what the call prints, and how often it
-# allocates.
+# The number of each input, under a colon and the input, since a key cannot be empty. By this number
+# and the call: what the call prints, and how often it allocates.
 declare -A numbers=() printed_by=() made_by=()
 
 # The bytes of a list of test_cases, as `printf %b` takes them: `pattern NAME`.

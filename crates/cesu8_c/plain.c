@@ -5,7 +5,7 @@
 
 const char *cesu8_status_text(uint32_t status)
 {
-    // The words are those of the error for that status in Rattle, or those that cesu8_cli prints.
+    // If Rattle or cesu8_cli has an error for the status, its words are the same.
     switch (status) {
     case CESU8_OK:
         return "ok";

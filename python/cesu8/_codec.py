@@ -68,7 +68,8 @@ def decode_by_handler(
     """Decode the bytes from `start` to `stop`, and call an error handler for each byte that is not
     part of an encoded character. Return the text and the offset at which it ends. The first such
     byte is at `place`, and `front` is the text of the bytes before it. A handler may continue at
-    any offset from `start` to `end`."""
+    any offset from `start` to `end`. If `stop` is not `end`, an incomplete character is between
+    them, which is left for the next piece."""
     handler = codecs.lookup_error(errors)
     is_mutf8 = encoding == "mutf-8"
     parts = [front]

@@ -1,4 +1,5 @@
-//! What the exports return: a status, and the length of the result, a decision or a reading.
+//! What the exports return: a status, and the length of the result, a decision or a reading. The
+//! numbers of the statuses and the fields of the structs must be those of `include/cesu8.h`.
 
 ghost use Rattle.std.specs.Prelude.{◌≡◌, false};
 ghost use Rattle.cesu8_c.specs.Answers.{answer_of, answer_for_bytes, answer_for_text, answer_for_lossy_text};

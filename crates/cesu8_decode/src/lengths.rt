@@ -31,6 +31,7 @@ pub fn decoded_len<F: Flavor>(bytes: &[u8]) -> Option<usize>
     if rest.is_empty() {
         return Some(prefix);
     }
+    // After the unchanged prefix comes a character that needs conversion, or an ill-formed byte.
     if !begins_changed::<F>(rest) || is_ill_formed::<F>(rest) {
         return None;
     }
@@ -49,8 +50,9 @@ pub fn lossy_len<F: Flavor>(bytes: &[u8]) -> Option<usize>
     lossy_len_by_steps::<F>(bytes)
 }
 
-/// Like `lossy_len`, in steps of `STEP` bytes. It is not inlined, so that at most one block needs no
-/// registers of its loop.
+/// Like `lossy_len`, in steps of `STEP` bytes: a character that begins in the first `STEP` bytes of
+/// a vector ends in it. It is not inlined, so that at most one block needs no registers of its
+/// loop.
 #[inline(never)]
 fn lossy_len_by_steps<F: Flavor>(bytes: &[u8]) -> Option<usize>
     ensures some { IfSome result (λ len. len ≡ lossy_length F.flavor bytes.now) }

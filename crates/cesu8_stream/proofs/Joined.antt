@@ -1,4 +1,5 @@
--- What two calls, one after the other, read and wrote, as if they were one call.
+-- What two calls, one after the other, read and wrote, as if they were one call: for instance the
+-- steps of `convert_rest` (src/engine.rt).
 use Rattle.std.proofs.Common.{◌≡◌, ℕ, ◌+◌, ◌-◌, ◌≤◌, List, [], ◌∷◌, ◌++◌, refl, sym, ap, ◌∙◌, arith, length, take, drop, append_assoc, length-append, length-drop}
 use Rattle.std.proofs.lemmas.Grind.{common_steps}
 use Rattle.std.proofs.lemmas.List.{take_rest}
@@ -29,7 +30,8 @@ joined_written write m n bytes s t append first second = (
   append s t ∙ (λ i. first.1 i ++ second.1 i) ∙ sym (take-add m n bytes),
 )
 
--- What two calls wrote stands at the front of the buffer, joined.
+-- What two calls wrote stands at the front of the buffer, joined. The second call wrote to the rest
+-- of the buffer, which is `new` after it.
 pub joined_front : (a b : List ℕ) (w v : ℕ) (old mid new : List ℕ) → StandsAtFront a w old mid →
     StandsAtFront b v (drop w mid) new → StandsAtFront (a ++ b) (w + v) old (take w mid ++ new)
 joined_front a b w v old mid new first second =

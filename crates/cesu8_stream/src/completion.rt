@@ -1,5 +1,5 @@
-//! Whether bytes are a truncated character. They are if the missing bytes of a fixed character,
-//! after these, make a whole one.
+//! Whether bytes are a truncated character. They are if they become a whole one when the missing
+//! bytes are taken from one of two fixed characters, which `Conversion::completions` returns.
 
 ghost use Rattle.std.specs.Prelude.{◌≡◌, ◌<◌, ◌≤◌, ◌↔◌, ◌++◌, length, drop, IsTrue};
 ghost use Rattle.cesu8_stream.specs.Written.{BeginsNone, MayBegin};

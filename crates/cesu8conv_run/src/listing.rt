@@ -100,6 +100,7 @@ impl<'a> Listing<'a> {
 
 impl Watch for Listing<'_> {
     fn taken(&mut self, bytes: &[u8], replaced: usize) {
+        // If `replaced` is 1, the last byte is in no character, and all others are in characters.
         let whole = bytes.len() - replaced.min(bytes.len());
         if whole > 0 {
             self.end_stretch();

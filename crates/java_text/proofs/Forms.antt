@@ -46,7 +46,8 @@ counted_after_count bytes some are =
     rw take_rest
     (ap (λ bs. take (length bs) after) are ∙ ap (λ n. take n after) (length-take (count_in bytes) after) ∙ take_min (count_in bytes) after)
 
--- A call that decodes these bytes (`counted_after_count`) decodes the counted bytes.
+-- A call that decodes the bytes that `counted_after_count` takes decodes the counted bytes:
+-- `decode_counted` makes such a call.
 pub counted_written : (bytes some : List ℕ) (result : Result ℕ DecodeSliceFault) (old new : List ℕ) → some ≡ counted bytes →
     WritesReading (IsStrictReading Mutf8 (take (length some) (take (length bytes - 2) (drop 2 bytes)))) result old new →
     WritesReading (IsStrictReading Mutf8 (counted bytes)) result old new
@@ -93,8 +94,8 @@ begins_with_form (a ∷ b ∷ bytes) text small n h =
     ∙ take-append-drop (0x100 * a + b) bytes) in
     record { scalars = h.0; fits = omega arith; bytes_are = cc }
 
--- If a call splits bytes into the counted ones and the rest, and the counted ones are the encoding
--- of a text, the bytes begin with its form, followed by the rest.
+-- If a call (`split_counted`) splits bytes into the counted ones and the rest, and the counted ones
+-- are the encoding of a text, the bytes begin with its form, followed by the rest.
 pub form_of_parts : (bytes : List ℕ) (result : Result (Bor (List ℕ) × Bor (List ℕ)) ReadFault) →
     ((i : ℕ) → get_or bytes i 0 < 256) → IfOk result (λ parts. parts.0.now ≡ counted bytes) →
     IfOk result (λ parts. parts.1.now ≡ rest_in bytes) → OnOk result (IsTruncated bytes → ⊥) →

@@ -1,4 +1,5 @@
-//! The cases of the program, tests/cli_cases.txt of the repository, as calls of the crate.
+//! The cases of the program, tests/cli_cases.txt of the repository, as calls of the crate. A line
+//! has the words, the input, the status and the output, separated by `|`. Bytes are hexadecimal.
 
 use std::borrow::Cow;
 

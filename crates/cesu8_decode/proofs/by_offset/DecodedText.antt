@@ -18,7 +18,8 @@ use Rattle.cesu8_text.proofs.reading.Splits.{split}
 use Rattle.cesu8_decode.proofs.by_offset.WindowOffsets.{is_boundary_at, Follows, follows_later, width_following, decoded_split}
 use Rattle.cesu8_decode.proofs.by_offset.CharacterBoundaries.{boundary_ends, none_crosses_boundary}
 
--- What is written for bytes that follow two given bytes and five offsets of given widths.
+-- What is written for bytes that follow two given bytes and five offsets of given widths: w1 is the
+-- width at the last of these offsets, and w5 at the first.
 unfoldable pub decoded_after : Flavor → (w1 w2 w3 w4 w5 two_before before : ℕ) → List ℕ → List ℕ
 decoded_after f w1 w2 w3 w4 w5 two_before before [] = []
 decoded_after f w1 w2 w3 w4 w5 two_before before (b ∷ bytes) =
@@ -168,7 +169,8 @@ decoded_after_ended f bytes w1 w2 w3 w4 w5 p q h1 h2 h3 h4 h5 =
     (λ c rest text scalar become. character_read f c rest (utf8 text) scalar (shape c scalar) become)
     (λ b rest text none become. replaced_read f b rest (utf8 text) none become) bytes p q
 
--- What is written for the bytes by their index is what `decoded_after` gives for them.
+-- What is written for the bytes by their index is what `decoded_after` gives for them. The first of
+-- them is byte i + 5 of the window, because `decoded` at offset i is about that byte.
 by_index : (f : Flavor) (window bytes : List ℕ) (i : ℕ) → Follows window bytes (i + 5) →
     decoded f window i (length bytes)
     ≡ decoded_after f (width_at f window (i + 4)) (width_at f window (i + 3)) (width_at f window (i + 2)) (width_at f window (i + 1))

@@ -1,5 +1,5 @@
--- The text that a vector holds after its first part and the chunks, for `build_chunks` of
--- src/destinations/strings.rt.
+-- Lossy decoding to a vector in two steps, for `build_chunks` of src/destinations/strings.rt: it
+-- decodes the first bytes, allocates for their text and that of the rest, and appends both.
 use Rattle.std.proofs.Common.{◌≡◌, ◌∙◌, sym, arith, ℕ, ◌+◌, List, [], ◌++◌, length, length-append, append-nil, Vec, vec_capacity, Ok}
 use Rattle.std.proofs.lemmas.Bool.Decides.{nat_tests}
 use Rattle.cesu8_text.specs.Encoding.{Flavor}

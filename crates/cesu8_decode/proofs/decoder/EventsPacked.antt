@@ -1,4 +1,5 @@
--- What shuffles pack for a window, byte by byte, for `write_nulls` and `write_replaced`.
+-- What shuffles pack for a window, byte by byte, for `write_nulls` and `write_replaced`. The former
+-- packs 32 offsets at a time and at most one byte for each, the latter 16 and at most three.
 use Rattle.std.proofs.Common.{◌≡◌, ◌≢◌, ℕ, zero, suc, ◌+◌, ◌-◌, ◌*◌, ◌/◌, ◌%◌, ◌^◌, ◌<◌, ◌≤◌, ⊎_elim, Bool, false, true≢false, cond, eqb, List, [], ◌∷◌, ◌++◌, refl, sym, ap, ◌∙◌, subst, arith, length, take, get_or, map, replicate, add-zero, zero-add}
 use Rattle.std.specs.Int.{bit_at}
 use Rattle.std.specs.List.{flat_map, range_with_len}
@@ -25,7 +26,8 @@ use Rattle.cesu8_decode.proofs.decoder.PackedLanes.{range_split, range_same, wri
 
 -- ---- C0 80
 
--- What is packed for an offset, by the mask of C0 80.
+-- What is packed for an offset, by the mask of C0 80: nothing for the second byte, 00 for C0, and
+-- any other byte itself.
 abbrev pub null_packed : (bytes : List ℕ) (at nulls : ℕ) → ℕ → List ℕ
 null_packed bytes at nulls i =
     written_for (eqb (bit_at (nulls * 2 % 2 ^ 64) i) 1) false (cond (eqb (get_or bytes (at + i) 0) 0xC0) 0 (get_or bytes (at + i) 0))

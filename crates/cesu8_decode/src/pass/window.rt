@@ -37,6 +37,7 @@ pub struct Written {
 
 /// Writes the text of the next `count` bytes and of the rest of a character that begins in them. If
 /// `count` is more than `STEP`, these bytes are the last ones of the input, and zeros follow them.
+/// Vectors can load up to `LANES` bytes after those that are read.
 #[inline(always)]
 pub fn write_window<F: Flavor>(
     bytes: &[u8],

@@ -149,7 +149,8 @@ fn write_in_place<F: Flavor>(
     pass
 }
 
-/// Copies the next characters that are unchanged in UTF-8, or as many as there is space for.
+/// Copies the next characters that are unchanged in UTF-8, or as many as there is space for. If at
+/// most 64 bytes are left or fit, it copies none, since `longest_prefix` requires more.
 #[inline(always)]
 fn copy_unchanged<F: Flavor>(bytes: &[u8], before: Pass, limit: usize, out: &mut [u8]) -> Pass
     requires before { CanGoOn F.flavor bytes.now before limit }

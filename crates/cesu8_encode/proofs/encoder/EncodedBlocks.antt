@@ -52,7 +52,7 @@ pub record AreMarks (f : Flavor) (window : List ℕ) (at : ℕ) (lead before two
 
 module _ (f : Flavor) (window : List ℕ) (at : ℕ) (lead before two_before null six : List ℕ)
     (marks : AreMarks f window at lead before two_before null six) where
-  -- The seconds are the last bytes that are written.
+  -- The seconds are, for each offset, the last byte that is written for it.
   pub seconds_are : second_vector 32 lead before two_before null (chunk (at + 2) 32 window) six
       ≡ map (changed_at f window) (range_with_len at 32)
   seconds_are = rw (marks.lead_is, marks.before_is, marks.two_before_is, marks.null_is, marks.six_is, loaded window at 2 32 (omega arith))
@@ -60,7 +60,7 @@ module _ (f : Flavor) (window : List ℕ) (at : ℕ) (lead before two_before nul
       (λ i. is_null f (get_or window (i + 2) 0)) (λ i. get_or window (i + 2) 0)
       (λ i. six_bits (get_or window (i + 2) 0) (get_or window (i + 3) 0)) (range_with_len at 32))
 
-  -- The firsts are the first bytes of those that become two.
+  -- The firsts are, for each offset whose byte becomes two, the first of the two.
   pub firsts_are : first_vector 32 null ≡ map (inserted_at f window) (range_with_len at 32)
   firsts_are = rw marks.null_is (first_lanes (λ i. is_null f (get_or window (i + 2) 0)) (range_with_len at 32))
 

@@ -1,4 +1,5 @@
--- What strict and lossy decoding return, by the input that a mode keeps unchanged.
+-- What strict and lossy decoding return in each mode (`KnowsTexts`): input that the mode returns
+-- unchanged decodes to its own characters, and all other input to its reading in the encoding.
 use Rattle.std.proofs.Common.{arith, ◌≡◌, ℕ, ◌↔◌, ◌⊎◌, List, refl, sym, ◌∙◌}
 use Rattle.std.specs.Str.{chars, IsUtf8}
 use Rattle.cesu8_text.specs.Text.{IsUtf8Of}

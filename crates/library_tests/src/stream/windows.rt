@@ -15,7 +15,8 @@ const ROOM: usize = 300;
 /// How many letters come first: the end of the first window is before, in or after what follows.
 const FRONTS: std::ops::Range<usize> = 84..101;
 
-/// Returns a damaged byte, `count` letters, the bytes and as many letters again.
+/// Returns a damaged byte, `count` letters, the bytes and as many letters again. If all of it were
+/// well-formed, a call would convert it as a whole, without the windows of the lossy decoder.
 fn surround(
     alloc: Global,
     damage: &[u8],

@@ -1,5 +1,6 @@
--- In a pair the second byte is below B0. So adding 0x100 to the word does not wrap, and the shifts
--- move its digits to the bytes of the character's UTF-8 (`utf8_word_is`).
+-- The word has the first eight bytes, the first in its lowest byte. In a pair the second byte is
+-- below B0. So adding 0x100 to the word does not wrap, and the shifts move its digits to the bytes
+-- of the character's UTF-8 (`utf8_word_is`).
 use Rattle.std.proofs.Common.{◌≡◌, ◌∙◌, ◌+◌, ◌*◌, ◌^◌, ◌%◌, ◌<◌, ℕ, refl, get_or, arith}
 use Rattle.cesu8_bytes.proofs.chunks.PairWords.{utf8_word_is}
 use Rattle.cesu8_bytes.proofs.pairs.utf8_of_pair.Goals as goal

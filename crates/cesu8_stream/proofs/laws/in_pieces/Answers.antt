@@ -1,4 +1,5 @@
--- One lemma for each clause of the law.
+-- One lemma for each clause of the law: what consecutive calls wrote, joined, is the text of the
+-- pieces joined.
 use Rattle.cesu8_stream.proofs.InPieces.{strict_in_pieces, encoded_in_pieces, lossy_in_pieces}
 use Rattle.cesu8_stream.proofs.laws.in_pieces.Goals as goal
 

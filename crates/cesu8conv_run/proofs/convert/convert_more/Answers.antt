@@ -1,5 +1,6 @@
--- What was read is the piece with the unread bytes. What is left of it is moved to the front of the
--- window.
+-- The piece is the unread bytes and what was read after them. What is left of it is moved to the
+-- front of the window. If nothing more was read, the piece is the last one. The variables r0 and w0
+-- are the input and the output at the start of the run, and `offset` bytes were taken before.
 use Rattle.std.proofs.Common.{◌≡◌, ◌-◌, ◌≤◌, ◌==◌, length, take, drop, arith, length-take}
 use Rattle.std.proofs.lemmas.Bool.Decides.{nat_tests}
 use Rattle.cesu8conv_run.proofs.Streams.{read-so-far, piece-so-far, some-so-far, broken-so-far, moved-front}

@@ -22,7 +22,8 @@ returns-clause-width g c =
     let pair : c.args.is_null ≡ false → 6 ≡ width_at f bytes at = λ is. pair_wide f bytes at (omega (arith, c.requires.bytes)) (pair_begins f bytes at (c.requires.pair is)) in
     grind (arith, null, pair) steps 1000000
 
--- What is written in either case, by the three values that are chosen.
+-- What is written in either case, by the three values that are chosen: `len` bytes are read, and
+-- `written` of the four bytes of `utf8` count. `put` returns m, the end of all four.
 changed_written : (f : Flavor) (bytes four stored old new : List ℕ) (at end m len utf8 written pair : ℕ) (is_null : Bool) → at + 8 ≤ length bytes → end + 4 ≤ length old →
     (is_null ≡ true → is_null_at f bytes at ≡ true) → (is_null ≡ false → is_pair_at f bytes at ≡ true) →
     (is_null ≡ true → (len ≡ 2) × (utf8 ≡ 0) × (written ≡ 1)) → (is_null ≡ false → (len ≡ 6) × (utf8 ≡ pair) × (written ≡ 4)) →

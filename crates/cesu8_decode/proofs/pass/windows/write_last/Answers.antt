@@ -1,7 +1,7 @@
 -- The array agrees with the bytes from `first` on, as if zeros followed them. `first` is 0, or at
 -- least five bytes before each window, which is as far back as a character can begin that reaches
 -- it. So the windows of the array are those of the bytes, and the zeros end the last one with the
--- bytes.
+-- bytes. The text of n bytes, and whether they end at a boundary, depend on n + 10 bytes.
 use Rattle.std.proofs.Common.{rules, ◌≡◌, ℕ, ◌+◌, ◌-◌, ◌<◌, ◌≤◌, ◌⊎◌, ⊎_elim, ◌∙◌, List, ◌++◌, sym, inl, inr, false, refl, arith, length, drop, replicate, get_or}
 use Rattle.std.proofs.lemmas.List.{take_rest}
 use Rattle.std.proofs.lemmas.Bool.{cases_lt}
