@@ -46,7 +46,8 @@ AreParts replaces [] = ⊤
 AreParts replaces (part ∷ parts) = IsPart replaces part × AreParts replaces parts
 
 -- The bytes are those of some parts, joined, and the text is that of these parts. `replaces` says
--- whether some of them may be replaced bytes.
+-- whether some of them may be replaced bytes. Any byte may be one: that only damaged bytes are
+-- replaced is tested, and not proved.
 pub record IsMixed (replaces : Bool) (f : Flavor) (bytes text : List ℕ) : Type 0 where
   pub parts : List Part
   pub are_parts : AreParts replaces parts
