@@ -59,7 +59,8 @@ abbrev pub MayFollow : Bool → List ℕ → Type 0
 MayFollow true more = more ≡ []
 MayFollow false more = ⊤
 
--- The text of the bytes that were taken, if the input goes on with the bytes ahead.
+-- The text of the bytes that were taken, if the input goes on with the bytes ahead. What follows
+-- matters only for `Lossy`, which replaces a byte only if no character begins with it.
 abbrev pub IsTextOf : Conversion → Bool → (taken ahead text : List ℕ) → Type 0
 IsTextOf (Encode word) is_last taken ahead text = IsUtf8Of text taken
 IsTextOf (Decode word) is_last taken ahead text = IsStrictReading (flavor_of word) taken text
