@@ -8,8 +8,8 @@ use crate::timing::Measured;
 
 const LENGTHS: [usize; 4] = [16, 24, 1_024, 16_384];
 
-/// Checks the results on ASCII, in which the kernel finds nothing, and on ASCII that ends in a byte
-/// that it should find.
+/// Checks the results on ASCII, in which the kernel finds nothing, on ASCII that ends in F4, which
+/// each kernel finds, and on ASCII that ends in 0, which only `NullFour` finds.
 fn is_right(call: Call, kernel: Kernel, ascii: &[u8]) -> bool {
     let ending_in = |last| {
         let mut bytes = ascii.to_vec();

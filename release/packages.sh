@@ -72,8 +72,8 @@ has_programs() {
     [[ -d $release/bin ]]
 }
 
-# Installs the release, and distributes its files to the packages. The files that are in none on
-# purpose are listed, and it is an error if others remain.
+# Installs the release, and distributes its files to the packages. The three files that `add_common`
+# copies to every package remain, and it is an error if others do.
 split() {
     mkdir "$all"
     DESTDIR=$all sh "$release/install.sh" /usr "lib/$triplet" >/dev/null

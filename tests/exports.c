@@ -71,6 +71,8 @@ struct result {
 
 typedef struct result call(const uint8_t *input, size_t length, uint8_t *buffer, size_t buffer_length);
 
+// Each of these macros defines a `call` for an export that writes to a buffer (PLACES), returns a
+// length (TELLS) or a decision (DECIDES), or reads a Java string (READS).
 #define PLACES(name)                                                                               \
     static struct result name(const uint8_t *input, size_t n, uint8_t *buffer, size_t m)           \
     {                                                                                              \
@@ -98,7 +100,8 @@ typedef struct result call(const uint8_t *input, size_t length, uint8_t *buffer,
         return (struct result){reading.status, reading.length, reading.taken};                     \
     }
 
-// The input is two texts, separated by a byte FE, which no text contains.
+// The input is two texts, separated by a byte FE, which no text contains. An input without FE is
+// compared with itself.
 #define COMPARES(name)                                                                             \
     static struct result name(const uint8_t *input, size_t n, uint8_t *buffer, size_t m)           \
     {                                                                                              \
@@ -760,6 +763,7 @@ static void look_at_pieces(void)
     for (const struct joined_row *row = joined_rows;
          row < joined_rows + sizeof joined_rows / sizeof *joined_rows; row++)
         for (size_t step = 1; step <= row->input.length; step++)
+            // A character takes at most six bytes, so it fits in each buffer.
             for (size_t m = 6; m <= 20; m++)
                 hold(converts_joined(row, step, m), row->name, "converts pieces otherwise");
 }

@@ -27,8 +27,9 @@ source "$top/tests/hostile_bytes.sh" || exit 2
 length=64000000
 capacity=67108864
 
-# The expected result of each command for each input. `same` is the input itself, and the other
-# names of results are those of the files that `write_answers` makes.
+# The expected result of each command for each input. `same` is the input itself, and `-` means that
+# the command does not know the flavor. `run_field` has the lines of the errors. The other names are
+# those of the files that `write_answers` and `write_input` make.
 table='
 input flavor encode   needs    decode  decode-strict lossy    lossy-strict java-write java-read
 half  cesu8  not_utf8 not_utf8 invalid invalid       replaced replaced     -          -

@@ -245,6 +245,7 @@ class Decoding(unittest.TestCase):
 
     def test_lenient(self) -> None:
         data = bytes.fromhex("F0 9F 92 96 FF")
+        # This is not UTF-8 as a whole, so each byte is damage. The other two handlers reject it.
         for errors in HANDLERS[1:5]:
             wanted = model.decoded(data, "mutf-8", errors)
             self.assertEqual(cesu8.decode(data, "mutf-8", errors, lenient=True), wanted)

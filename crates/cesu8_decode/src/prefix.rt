@@ -67,6 +67,7 @@ fn prefix_of_more<F: Flavor>(bytes: &[u8]) -> UnchangedPrefix
     if are_short(bytes) {
         return prefix_by_window::<F, LANES>(bytes, padded(bytes));
     }
+    // `changed` is used for at most 64 bytes only.
     UnchangedPrefix {
         len: longest_prefix::<F, Unchanged>(bytes),
         changed: 0,

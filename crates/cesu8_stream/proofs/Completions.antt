@@ -1,5 +1,6 @@
--- A part of an encoded character is completed by the bytes of a fixed one: U+10000 (`pair_bytes`),
--- or U+0000 of MUTF-8 (`null_bytes`). So `may_begin` of src/completion.rt tests only these two.
+-- The first k bytes of an encoded character become a character if the bytes of a fixed one from
+-- offset k on follow them: those of U+10000 (`pair_bytes`), or of U+0000 in MUTF-8 (`null_bytes`,
+-- padded with zeros). So `may_begin` of src/completion.rt tests only these two.
 use Rattle.std.proofs.Common.{◌≡◌, ℕ, ◌+◌, ◌*◌, ◌<◌, ◌≤◌, ◌⊎◌, List, [], ◌∷◌, ◌++◌, refl, sym, ap, ◌∙◌, subst, inl, inr, arith, length, drop, take, length-append}
 use Rattle.std.proofs.lemmas.Bool.{cases_eq, cases_lt}
 use Rattle.std.proofs.lemmas.Grind.{common_steps}

@@ -37,7 +37,8 @@ drop_before i place bytes more low within =
     ∙ ap (λ bs. bs ++ more) (take-append-drop place bytes))
     ∙ drop_front i bytes more (omega arith)
 
--- If no character at the five offsets before the place crosses it, none does, whatever follows.
+-- If no character at the five offsets before the place crosses it, none does, whatever follows. The
+-- five bytes after the place are known, so a character that crosses it would end in the bytes.
 pub none_crosses : (write : List ℕ → List ℕ) (bytes more : List ℕ) (place : ℕ) → Sizes write → place + 5 ≤ length bytes →
     NoneFrom write bytes place place → NoneCrosses write (take place bytes) (drop place bytes ++ more)
 none_crosses write bytes more place sizes within none i c low b =

@@ -46,7 +46,8 @@ AreParts replaces [] = ⊤
 AreParts replaces (part ∷ parts) = IsPart replaces part × AreParts replaces parts
 
 -- The bytes are those of some parts, joined, and the text is that of these parts. `replaces` says
--- whether some of them may be replaced bytes.
+-- whether some of them may be replaced bytes. Any byte may be one: that only damaged bytes are
+-- replaced is tested, and not proved.
 pub record IsMixed (replaces : Bool) (f : Flavor) (bytes text : List ℕ) : Type 0 where
   pub parts : List Part
   pub are_parts : AreParts replaces parts
@@ -58,7 +59,8 @@ abbrev pub MayFollow : Bool → List ℕ → Type 0
 MayFollow true more = more ≡ []
 MayFollow false more = ⊤
 
--- The text of the bytes that were taken, if the input goes on with the bytes ahead.
+-- The text of the bytes that were taken, if the input goes on with the bytes ahead. What follows
+-- matters only for `Lossy`, which replaces a byte only if no character begins with it.
 abbrev pub IsTextOf : Conversion → Bool → (taken ahead text : List ℕ) → Type 0
 IsTextOf (Encode word) is_last taken ahead text = IsUtf8Of text taken
 IsTextOf (Decode word) is_last taken ahead text = IsStrictReading (flavor_of word) taken text

@@ -7,7 +7,7 @@ use crate::conversion::{Conversion, FlavorWord};
 pub enum Task {
     /// Convert it.
     Convert(Conversion),
-    /// List what is damaged in it.
+    /// List what is damaged in it: the bytes that `Conversion::Lossy` replaces.
     Check(FlavorWord),
 }
 

@@ -13,7 +13,8 @@ pub struct Reason {
     pub text: &'static str,
 }
 
-/// Why the bytes, of which there is at least one, are damage to a conversion.
+/// Why the bytes, of which there is at least one, are damage to a conversion. They are all those
+/// from the damage on that were read.
 pub fn reason_of(conversion: Conversion, bytes: &[u8]) -> Reason {
     match conversion {
         Conversion::Encode(_) => utf8_reason(bytes),
@@ -82,8 +83,8 @@ fn mixed_reason(flavor: FlavorWord, bytes: &[u8]) -> Reason {
     )
 }
 
-/// The reason for bytes at the end of the input that are a beginning of a character, or this text
-/// for the first byte.
+/// The reason for bytes that are only the beginning of a character, or this text for the first
+/// byte. In the first case it says that the input ends, since no more bytes were read.
 fn cut_or(bytes: &[u8], text: &'static str) -> Reason {
     if is_cut(bytes) {
         return Reason {

@@ -4,8 +4,9 @@
 use simd_cesu8::{CowBytes, CowText, DecodeFault, DecodeSliceFault, LossySliceFault, TooShort};
 use std::alloc::AllocError;
 
-/// The result of a call. If there is no result although the input is valid, an allocation failed,
-/// the buffer is too short, or the length of a lossy reading does not fit `usize`.
+/// The result of a call, as bench/measured.h declares it for C (`measured_outcome`). If there is no
+/// result although the input is valid, an allocation failed, the buffer is too short, or the length
+/// of a lossy reading does not fit `usize`.
 #[repr(C)]
 #[derive(Drop)]
 pub struct Outcome {

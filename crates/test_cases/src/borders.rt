@@ -1,6 +1,6 @@
 //! The first and last scalar values of each encoded length, and some between, with their bytes in
 //! UTF-8 and in both encodings. tests/peers.sh reads their names here, and tests/memory.sh their
-//! bytes too.
+//! bytes too. The former has the total length of their UTF-8, and the latter their number.
 
 use crate::flavors::Flavor;
 

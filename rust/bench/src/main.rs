@@ -148,7 +148,8 @@ fn encoded(text: &str, is_mutf8: bool) -> Vec<u8> {
     if is_mutf8 { mutf8::encode(text).into_owned() } else { simd_cesu8::encode(text).into_owned() }
 }
 
-/// Returns the least nanoseconds a call of each codec.
+/// Returns the nanoseconds of one call for each codec: the least time of each batch, averaged over
+/// the inputs.
 fn time(codecs: &[Call], inputs: &[Vec<u8>], rounds: usize) -> Vec<f64> {
     let mut least = vec![f64::MAX; codecs.len()];
     // A batch takes about 20 microseconds, so that few are interrupted.

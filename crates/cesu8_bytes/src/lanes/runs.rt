@@ -34,7 +34,8 @@ pub(crate) fn first_bit<const N: usize>(marks: u64) -> usize
 const GROUP: usize = 4 * LANES;
 
 /// Returns the length of a prefix without a byte of the class, in whole groups of 256 bytes. It may
-/// stop at a group that has none. If the first 64 bytes have one, as is common, no more are tested.
+/// stop at a group that has none, since the test of a group can have false positives. If the first
+/// 64 bytes have one, as is common, no more are tested.
 #[inline(always)]
 pub fn run_of_groups<C: InGroups>(bytes: &[u8]) -> usize
     ensures within { (result ≤ length bytes.now) × (0 < result → GROUP ≤ result) }

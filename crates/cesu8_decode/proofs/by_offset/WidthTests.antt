@@ -89,7 +89,8 @@ continuation b t = let h = and_parts (leb 0x80 b) (ltb b 0xC0) t in (leb-true 0x
 pub is_continuation : (b : ℕ) → 0x80 ≤ b → b < 0xC0 → continues b ≡ true
 is_continuation b low high = and_from (leb 0x80 b) (ltb b 0xC0) (le-leb 0x80 b low) (lt-ltb b 0xC0 high)
 
--- If the bytes begin with a character of m bytes, the width is m.
+-- If the bytes begin with a character of m bytes, the width is m. The number n is the length of its
+-- UTF-8, which does not matter here.
 by_found : (f : Flavor) (bytes : List ℕ) (m n : ℕ) → BeginsInLengths f bytes m n → first_width f bytes ≡ m
 by_found f bytes m n found = width_of_first f bytes found.character found.rest found.begins ∙ found.encoded
 
@@ -172,7 +173,8 @@ pub width_tells : (f : Flavor) (a b d e g h : ℕ) → let w = first_width_by f 
 unfolding first_width_by
 width_tells f a b d e g h = by_chain (one_at f a) (null_at f a b) (two_at a b) (three_at a b d) (pair_at a b d e g h)
 
--- A surrogate pair in the padded prefix is one in the bytes.
+-- The prefix and the bytes agree in the first eight bytes. Missing ones count as zeros, so a
+-- surrogate pair in the prefix is one in the bytes.
 module _ (bytes prefix : List ℕ) (same : IsPrefixOf bytes prefix) where
   pub pair_by_prefix : HasPair prefix → (6 ≤ length bytes) × HasPair bytes
   pair_by_prefix pair = grind (arith, long_by)

@@ -1,4 +1,6 @@
--- What is written for whole characters at a boundary: the UTF-8 of their text.
+-- What is written for whole characters at a boundary: the UTF-8 of their text. `window_of bytes` is
+-- the bytes with five zeros before them. What `decoded`, `is_ill_formed_at` and `is_boundary_at`
+-- say of it at offset i is about byte i of the bytes. What `width_at` says is about byte i - 5.
 use Rattle.std.proofs.Common.{◌≡◌, ℕ, ◌+◌, ◌-◌, ◌<◌, ◌≤◌, true, false, List, [], ◌∷◌, ◌++◌, ⊎_elim, sym, ap, ◌∙◌, subst, arith, append-nil, append_assoc, length, take, drop, length-append, length-drop, take-append-drop}
 use Rattle.std.proofs.Math.Seq.{drop-append_seam}
 use Rattle.std.proofs.lemmas.Bool.{cases_Bool, cases_lt}

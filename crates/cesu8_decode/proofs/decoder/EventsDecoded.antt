@@ -79,6 +79,7 @@ pub record NoEventAt (f : Flavor) (bytes : List ℕ) (i : ℕ) : Type 0 where
   pub fine : is_ill_formed_at f (window_of bytes) i ≡ false
 
 module _ (f : Flavor) (bytes : List ℕ) where
+  -- The width and the byte at an offset of `window_of bytes`. Those of byte i are at i + 5.
   abbrev w : ℕ → ℕ
   w = width_at f (window_of bytes)
 

@@ -56,6 +56,8 @@ abbrev pub pair_by : (a b d e g h : ℕ) (p q r p2 q2 r2 : Bool) → Bool
 pair_by a b d e g h p q r p2 q2 r2 =
     (surrogate_by a b d p q && not (surrogate_by a b d p q && r)) && (surrogate_by e g h p2 q2 && r2)
 
+-- If the bits are those of the bytes, as the assumptions state, the tests by bits equal those by
+-- whole bytes, such as `three_at`.
 three_tests : (a b d : ℕ) (p q : Bool) → (leb 0xE0 a && not p) ≡ (leb 0xE0 a && ltb a 0xF0) → (continues b && q) ≡ (leb 0xA0 b && ltb b 0xC0) →
     three_by a b d p q ≡ three_at a b d
 three_tests a b d p q lead wide = grind (arith, nat_tests)

@@ -1,5 +1,6 @@
 -- The window of at most 64 bytes, with zeros after them, for `window_of_short` of
--- `lanes/windows.rt` and for `pass/short.rt`.
+-- `lanes/windows.rt` and for `pass/short.rt`. `window_of` puts five zeros before the bytes, so that
+-- what is said of `window_of bytes` at offset i is about byte i of the bytes.
 use Rattle.std.proofs.Common.{◌≡◌, ℕ, ◌+◌, ◌^◌, ◌<◌, ◌≤◌, ⊎_elim, Bool, true, false, not, ◌&&◌, ◌||◌, eqb, ltb, List, ◌++◌, length, take, replicate, get_or, bit_and, sym, ap, ◌∙◌, arith, w64, zero-add}
 use Rattle.std.specs.Int.{bit_not}
 use Rattle.std.proofs.lemmas.Bool.{cases_lt, le-ltb}
@@ -76,6 +77,8 @@ pair_not_c0 f bytes i pair = grind (arith, nat_tests, pair_lead, pair_width)
 null_lead : (f : Flavor) (a b : ℕ) → null_at f a b ≡ true → eqb a 0xC0 ≡ true
 null_lead f a b null = grind (arith, nat_tests)
 
+-- Among the bits of the characters that need conversion, those with a first byte C0 are C0 80, and
+-- the others are surrogate pairs. `t` says whether the offset is in the bytes.
 nulls_among : (t pair null c0 : Bool) → (pair ≡ true → c0 ≡ false) → (null ≡ true → c0 ≡ true) → ((t && (pair || null)) && c0) ≡ (t && null)
 nulls_among t pair null c0 of_pair of_null = grind arith
 

@@ -16,7 +16,8 @@ use Rattle.cesu8_text.proofs.order.Below.{same_answer}
 abbrev ranks : List ℕ → List ℕ
 ranks text = map utf16_rank (utf8 text)
 
--- If one character precedes another in UTF-16, its ranks are below.
+-- If one character precedes another in UTF-16, its ranks are below those of the other. This holds
+-- for all characters: `Unit` excludes none.
 ranks_keep_order : KeepsOrder (λ c. Unit {0}) ranks
 unfolding utf8_of
 ranks_keep_order = record {

@@ -26,8 +26,8 @@ returns-then-is_empty-clause-some g c =
     of_length (IsStrictReading f bytes) (λ len. n ≡ len) _ bytes
     (only_kept f bytes _ _ _ (encoding_texts f bytes) Strict ((all_unchanged f bytes n c.unchanged_prefix_by_call-prefix.ensures.len).0 all)) all
 
--- No character that needs conversion follows the prefix, or a byte after it is ill-formed. In both
--- cases there is no strict reading.
+-- No character that needs conversion begins directly after the prefix, or a byte after it is
+-- ill-formed. In both cases there is no strict reading: in the first, no character begins there.
 pub returns-then-not-begins_changed-clause-none : goal.returns-then-not-begins_changed-clause-none
 returns-then-not-begins_changed-clause-none g c =
     let f = g.F.Flavor.flavor in

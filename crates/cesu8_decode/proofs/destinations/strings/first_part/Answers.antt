@@ -1,5 +1,5 @@
 -- A byte that is neither a continuation byte nor ED is the first of its character, so no character
--- crosses the offset before it.
+-- crosses the offset before it. ED can also be the fourth byte, in a surrogate pair.
 use Rattle.std.proofs.Common.{⊎_elim, arith}
 use Rattle.cesu8_decode.proofs.chunks.FirstBytes.{none_crosses_before}
 use Rattle.cesu8_decode.proofs.destinations.strings.first_part.Goals as goal

@@ -1,5 +1,6 @@
 -- Each mask has the bits of its characters, as combinations of the masks of byte classes. If all
--- bytes are characters of one byte, no other begins.
+-- bytes are characters of one byte, no other begins. `and_comm` brings the operands of lemma and
+-- goal to one order, so the code may exchange them.
 use Rattle.std.proofs.Common.{arith}
 use Rattle.std.proofs.lemmas.Nat.{and_comm}
 use Rattle.cesu8_decode.proofs.decoder.FormMasks.{others_are, ones_alone, second_are, long_leads_are, below_c2_are, twos_are, threes_first, pairs_first, nulls_first}

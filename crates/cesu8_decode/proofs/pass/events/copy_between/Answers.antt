@@ -1,4 +1,5 @@
--- All of the stored bytes are those from the offset on, so the first `count` are the copied ones.
+-- The store writes the `WIDTH` bytes from the offset on, so the first `count` of them are the copy.
+-- What is written ends after these.
 use Rattle.std.proofs.Common.{arith}
 use Rattle.cesu8_decode.proofs.decoder.WindowReturns.{first_copied}
 use Rattle.cesu8_decode.proofs.pass.events.copy_between.Goals as goal

@@ -1,5 +1,5 @@
--- The bytes up to the first that is not unchanged are their own text, so the pass goes on after
--- them.
+-- Unchanged characters are their own text. So decoding writes a copy of their longest prefix, and
+-- the pass goes on after it.
 use Rattle.std.proofs.Common.{◌+◌, ◌-◌, refl, sym, subst, arith, length, take, drop}
 use Rattle.std.proofs.lemmas.List.{length-take, length-take-le, take_rest}
 use Rattle.cesu8_decode.specs.Decoding.{GoesOn}
