@@ -211,7 +211,8 @@ static PyObject *codec_decode(
     PyObject *data = errors == NULL || is_final < 0 ? NULL : bytes_of(with[0]);
     if (data == NULL)
         return NULL;
-    // Python passes a view if it holds a caller's bytearray locked during the call.
+    // Python passes a view if it holds a caller's bytearray locked during the call. Then the
+    // interpreter lock is not released.
     length = PyBytes_Size(data);
     struct part part = {data, 0, length, length, is_mutf8, PyMemoryView_Check(with[0])};
     if (!is_final)

@@ -1,4 +1,4 @@
-"""Each rule of the eraser on a form that it knows, and forms that stop it.
+"""Each rule of the eraser (rust/erase.py) on a form that it knows, and forms that stop it.
 
     python3 rust/tests/test_erase.py
 """

@@ -259,7 +259,8 @@ class JavaStrings(unittest.TestCase):
             self.assertEqual(found, ("A!!!", len(front) + 6))
             reasons = ["invalid start byte", "unexpected end of data", "invalid start byte"]
             self.assertEqual(asked, list(enumerate(reasons, 1)))
-            # Every offset before the string, and one after it. Its first byte is also at -4.
+            # Every offset before the string, and one after it. A negative offset counts from the
+            # end of the string, so its first byte is also at -4.
             for place in (*range(first), first + 5, -5, -20):
                 asked.clear()
                 answers = [place]

@@ -242,6 +242,7 @@ fn encoded_len(flavor: FlavorWord, bytes: &[u8]) -> usize
         FlavorWord::Cesu8 => 0xFF,
         FlavorWord::Mutf8 => 0,
     });
+    // The sums cannot overflow, but `wrapping_add` and `min` spare the proof of that.
     let mut len = 0usize;
     for block in blocks {
         let lanes = u8x32::from_array(*block);
