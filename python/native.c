@@ -123,6 +123,7 @@ static int cut_string(PyObject *row, Py_ssize_t start, struct part *string)
     return 0;
 }
 
+// CALL begins a function of the module. TAKE parses its arguments to `with`, as `take` does.
 #define CALL(name) \
     static PyObject *name(PyObject *Py_UNUSED(module), PyObject *const *given, Py_ssize_t count, \
         PyObject *keywords)
