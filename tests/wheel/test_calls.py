@@ -225,6 +225,7 @@ class JavaStrings(unittest.TestCase):
 
     def test_long_strings(self) -> None:
         """Long strings, one after another. Each error handler has another result for them."""
+        # Each has more bytes than the buffer on the stack (FEW in convert.h).
         damaged = 100 * bytes.fromhex("41 C0 80 FF C2 A2")
         utf8 = 150 * bytes.fromhex("41 F0 9F 92 96")
         pairs = 120 * bytes.fromhex(tables.PAIR + "C0 80")

@@ -106,7 +106,7 @@ fn mixed_lossy_step(flavor: FlavorWord, bytes: &[u8], is_last: bool, room: &mut 
     replace(mixed_step(flavor, bytes, is_last, room), room)
 }
 
-/// Decodes the whole characters in the first bytes alone.
+/// Decodes the whole characters in the first bytes alone. Only the contract uses `is_last`.
 fn front_step(flavor: FlavorWord, bytes: &[u8], len: usize, is_last: bool, room: &mut [u8]) -> Step
     requires { len ≤ length bytes.now }
     ensures { IsStep (Conversion.Mixed flavor) bytes.now is_last room.new result }
