@@ -123,6 +123,7 @@ static int cut_string(PyObject *row, Py_ssize_t start, struct part *string)
     return 0;
 }
 
+// CALL begins a function of the module. TAKE parses its arguments to `with`, as `take` does.
 #define CALL(name) \
     static PyObject *name(PyObject *Py_UNUSED(module), PyObject *const *given, Py_ssize_t count, \
         PyObject *keywords)
@@ -211,7 +212,8 @@ static PyObject *codec_decode(
     PyObject *data = errors == NULL || is_final < 0 ? NULL : bytes_of(with[0]);
     if (data == NULL)
         return NULL;
-    // Python passes a view if it holds a caller's bytearray locked during the call.
+    // Python passes a view if it holds a caller's bytearray locked during the call. Then the
+    // interpreter lock is not released.
     length = PyBytes_Size(data);
     struct part part = {data, 0, length, length, is_mutf8, PyMemoryView_Check(with[0])};
     if (!is_final)

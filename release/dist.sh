@@ -217,7 +217,8 @@ make_cross() {
     fi
 }
 
-# The build for aarch64 comes first, so that out/ holds the code for x86-64-v2 at the end.
+# The build for aarch64 comes first, so that out/ holds the code for x86-64-v2 at the end, as `rt`
+# builds it by default.
 if missing=$(can_cross); then
     has_cross=yes
     build_cross

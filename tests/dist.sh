@@ -137,7 +137,9 @@ look_at_files() {
     grep -rlI '@[A-Z][A-Z]*@' "$unpacked" && wrong 'these are not filled in'
 }
 
-# The README names each file, and no page names a file or a page that is not there.
+# The README names each file, and no page names a file or a page that is not there. dist.sh
+# removes links, and the sentences with links to pages that are not there. So there must be no link
+# and no section without text.
 look_at_pages() {
     local file page
     while read -r file; do

@@ -79,9 +79,9 @@ function define(words, i) {
 }
 
 # Adds a piece to the row's text, with the definitions that it cites. A definition of the crate
-# itself comes first. `near_text`, with which numbers are compared, gets only the clauses, the
-# definitions that these cite, and those that these cite in turn: the definition of an encoding,
-# which nearly all rows cite, has many numbers.
+# itself comes first. `near_text`, with which numbers are compared, gets only the signatures and
+# clauses, the definitions that these cite, and those that these cite in turn: the definition of an
+# encoding, which nearly all rows cite, has many numbers.
 function add(piece, crate, depth, words, count, i, at) {
     row_text = row_text "\n" piece
     if (depth < 3) near_text = near_text "\n" piece

@@ -1,4 +1,4 @@
-"""Each rule of the eraser on a form that it knows, and forms that stop it.
+"""Each rule of the eraser (rust/erase.py) on a form that it knows, and forms that stop it.
 
     python3 rust/tests/test_erase.py
 """
@@ -65,6 +65,7 @@ class Rules(unittest.TestCase):
         self.assertEqual(text, "use super::super::super::decode::a;")
 
     def test_a_body_is_not_replaced(self):
+        # The Rust crate has the bodies that were proved, and no others in their place.
         for parameter in ["a: usize", "a: &mut A", "a: u8x16"]:
             body = "{\n    if a == b {\n        f();\n    }\n}"
             form = f"#[inline(always)]\nfn append_each({parameter}) {body}"

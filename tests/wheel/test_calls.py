@@ -225,6 +225,7 @@ class JavaStrings(unittest.TestCase):
 
     def test_long_strings(self) -> None:
         """Long strings, one after another. Each error handler has another result for them."""
+        # Each has more bytes than the buffer on the stack (FEW in convert.h).
         damaged = 100 * bytes.fromhex("41 C0 80 FF C2 A2")
         utf8 = 150 * bytes.fromhex("41 F0 9F 92 96")
         pairs = 120 * bytes.fromhex(tables.PAIR + "C0 80")
@@ -259,7 +260,8 @@ class JavaStrings(unittest.TestCase):
             self.assertEqual(found, ("A!!!", len(front) + 6))
             reasons = ["invalid start byte", "unexpected end of data", "invalid start byte"]
             self.assertEqual(asked, list(enumerate(reasons, 1)))
-            # Every offset before the string, and one after it. Its first byte is also at -4.
+            # Every offset before the string, and one after it. A negative offset counts from the
+            # end of the string, so its first byte is also at -4.
             for place in (*range(first), first + 5, -5, -20):
                 asked.clear()
                 answers = [place]

@@ -51,6 +51,8 @@ most_of_text f Strict bytes = length bytes
 most_of_text f Lossy bytes = lossy_length f bytes
 
 -- The text of the bytes is written at the start of a slice, or strict decoding rejects a byte.
+-- `IsReadSoFar` with [] for the rest says that all bytes are decoded: the last list is the one
+-- before it, followed by their text.
 pub record WritesReading {E : Type 0} (f : Flavor) (which : Strictness) (bytes : List ℕ) (result : Result ℕ E) (old new : List ℕ) : Type 0 where
   pub text : IfOk result (λ end. IsReadSoFar f which bytes [] [] (take end new))
   pub end : IfOk result (λ end. end ≤ most_written which (length bytes))

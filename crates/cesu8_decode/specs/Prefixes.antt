@@ -1,4 +1,5 @@
--- The longest prefix of whole characters of a set.
+-- The longest prefix of whole characters of a set: of all encoded characters, or of those that are
+-- unchanged in UTF-8. Functions of src/prefix.rt return its length.
 use Rattle.std.specs.Prelude.{◌≡◌, ◌↔◌, ℕ, ◌<◌, ◌≤◌, ◌||◌, Bool, false, List, length, take, Any}
 use Rattle.cesu8_text.specs.Encoding.{Flavor, encoding, IsEncodedOtherwise}
 use Rattle.cesu8_text.specs.Text.{IsText}
@@ -47,8 +48,8 @@ pub record IsProperPrefix (f : Flavor) (bytes : List ℕ) (prefix : UnchangedPre
   pub found : IsUnchangedPrefix f bytes prefix
   pub more : prefix.len < length bytes
 
--- The prefix is all of the bytes exactly if a call returns its input unchanged, and otherwise it is
--- the unchanged prefix.
+-- The prefix is all of the bytes exactly if a call returns its input unchanged, which `are_kept`
+-- states, and otherwise it is the unchanged prefix.
 pub record IsPrefixUnlessKept (f : Flavor) (are_kept : Type 0) (bytes : List ℕ) (found : UnchangedPrefix) : Type 0 where
   pub kept : (found.len ≡ length bytes) ↔ are_kept
   pub prefix : ¬ (found.len ≡ length bytes) → IsProperPrefix f bytes found

@@ -6,8 +6,8 @@ use Rattle.cesu8_stream.specs.declared.progress.Progress.{Progress}
 use Rattle.cesu8_stream.specs.declared.progress.State.{State}
 use Rattle.cesu8_stream.specs.declared.progress.State.TheVariants.{InputEmpty, Incomplete, OutputFull, Malformed}
 
--- Why nothing more of the rest was converted. If a character begins it, that character does not
--- fit.
+-- The state to return for the rest that was not converted. If a character begins the rest, it did
+-- not fit. `from` is the encoding of the input.
 pub record IsStateOf (from : List ℕ → List ℕ) (rest : List ℕ) (state : State) : Type 0 where
   pub input_empty : (state ≡ InputEmpty) ↔ (rest ≡ [])
   pub incomplete : (state ≡ Incomplete) ↔ IsPartial from rest
@@ -15,8 +15,9 @@ pub record IsStateOf (from : List ℕ → List ℕ) (rest : List ℕ) (state : S
   pub output_full : (state ≡ OutputFull) ↔ ((c : ℕ) × Begins from rest c)
   pub few_left : state ≡ Incomplete → length rest ≤ 5
 
--- How far a call that converts what is well-formed came, and why it stopped. A character has at
--- most `widest` bytes in the output. `old` and `new` are the buffer before and after the call.
+-- How far a call that converts what is well-formed came, and why it stopped. `from` and `to` are
+-- the encodings of the input and of the output. A character has at most `widest` bytes in the
+-- output. `old` and `new` are the buffer before and after the call.
 pub record ConvertsPiece (from to : List ℕ → List ℕ) (widest : ℕ) (bytes : List ℕ) (result : Progress) (old new : List ℕ) : Type 0 where
   -- The bytes that were read are a text, which was written.
   pub text : Converts from to bytes result.read result.written old new

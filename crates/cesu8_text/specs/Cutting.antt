@@ -1,5 +1,6 @@
 -- A second definition of lossy decoding: bytes are cut into pieces, each an encoded character or
--- one byte that is replaced.
+-- one byte that is replaced. Laws say that the text of a greedy cutting is the lossy reading of
+-- specs/Reading (`Places`), and that it replaces the fewest bytes (`Fewest`).
 use Rattle.std.specs.Prelude.{◌≡◌, ℕ, ◌+◌, List, [], ◌∷◌, map, ⊤}
 use Rattle.std.specs.List.{flat_map}
 use Rattle.cesu8_text.specs.Text.{IsScalarValue}

@@ -106,7 +106,7 @@ fn mixed_lossy_step(flavor: FlavorWord, bytes: &[u8], is_last: bool, room: &mut 
     replace(mixed_step(flavor, bytes, is_last, room), room)
 }
 
-/// Decodes the whole characters in the first bytes alone.
+/// Decodes the whole characters in the first bytes alone. Only the contract uses `is_last`.
 fn front_step(flavor: FlavorWord, bytes: &[u8], len: usize, is_last: bool, room: &mut [u8]) -> Step
     requires { len ≤ length bytes.now }
     ensures { IsStep (Conversion.Mixed flavor) bytes.now is_last room.new result }
@@ -242,6 +242,7 @@ fn encoded_len(flavor: FlavorWord, bytes: &[u8]) -> usize
         FlavorWord::Cesu8 => 0xFF,
         FlavorWord::Mutf8 => 0,
     });
+    // The sums cannot overflow, but `wrapping_add` and `min` spare the proof of that.
     let mut len = 0usize;
     for block in blocks {
         let lanes = u8x32::from_array(*block);

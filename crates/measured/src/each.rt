@@ -16,9 +16,9 @@ struct Texts<'a> {
 
 /// Adds up the results of a call for each text of `length` bytes, `times` times.
 ///
-/// The outcome has no result if a call returns `None`, if the last text is shorter, if a text ends
-/// within a character, or if the sum does not fit `usize`. It is invalid if the bytes are not
-/// UTF-8.
+/// The outcome has no result if `length` is 0, if a call returns `None`, if the last text is
+/// shorter, if a text ends within a character, or if the sum does not fit `usize`. It is invalid if
+/// the bytes are not UTF-8.
 pub fn outcome_of_sum<F: Fn(&str) -> Option<usize>>(
     texts: &[u8],
     length: usize,

@@ -33,9 +33,9 @@ pub use cesu8_decode::{decode_lossy, decoded_len, lossy_len};
 pub use cesu8_encode::{encode, encode_into};
 use std::alloc::Global;
 
-/// Decodes the bytes strictly, with one allocation of their length. `front` says where a check of
-/// the bytes stopped: the bytes before it are whole characters that are the same in UTF-8, and it
-/// is less than the input's length.
+/// Decodes the bytes strictly, with one allocation of their length. `front` is their unchanged
+/// prefix, the longest one of whole characters that are the same in UTF-8. It must be shorter than
+/// the input.
 #[inline(always)]
 pub fn decode_strict<F: Flavor>(
     alloc: Global,

@@ -1,6 +1,6 @@
 -- What has been copied of a file of strings, and what is left of it, for `append_strings` of
--- src/string_file.rt. The form of a text (`java_form`) is the count of its MUTF-8, in two bytes,
--- and then the MUTF-8.
+-- src/string_file.rt. The form of a text (`java_form`) is the length of its MUTF-8, as two bytes,
+-- followed by the MUTF-8.
 use Rattle.std.proofs.Common.{◌≡◌, ℕ, ◌+◌, ◌*◌, ◌≤◌, List, [], ◌∷◌, ◌++◌, length, ap, ◌∙◌, arith, append-nil, append_assoc, length-append}
 use Rattle.std.specs.List.{flat_map}
 use Rattle.std.proofs.lemmas.Grind.{flat_map-append}

@@ -1,4 +1,4 @@
--- Keys that are encodings, and their order, for `put_value`.
+-- Keys that are encodings, and their order, for `put_value` of src/key_store.rt.
 use Rattle.std.proofs.Common.{◌≡◌, ◌≢◌, ℕ, true, false, List, Option, Ordering, refl, sym, ◌∙◌}
 use Rattle.std.specs.Global.{Vec}
 use Rattle.std.specs.BTreeMap.{BTreeMap, keys, IsOrdered, UpdatesBy}

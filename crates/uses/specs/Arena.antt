@@ -1,4 +1,5 @@
--- Texts in an arena.
+-- What `fill_arena` of src/arena.rt promises. An arena is a slice to which it writes the encodings
+-- of texts, one after the other.
 use Rattle.std.specs.Prelude.{◌≡◌, ℕ, ◌+◌, ◌<◌, List, length, take, slice_index}
 use Rattle.std.specs.Borrow.{Bor}
 use Rattle.simd_cesu8.specs.Encoding.{Cesu8, encoding}

@@ -1,4 +1,4 @@
--- Eight bytes at an index of a longer list, as a loop over words tests them.
+-- Eight bytes at an index of a longer list, as `test_word_any` of src/words.rt tests them.
 use Rattle.std.proofs.Common.{◌≡◌, ℕ, Bool, false, IsTrue, ◌+◌, ◌-◌, ◌<◌, ◌≤◌, List, sym, ◌∙◌, subst, ⊎_elim, arith, length, take, drop, get_or, slice_range}
 use Rattle.std.specs.List.{Any}
 use Rattle.std.proofs.lemmas.Bool.{both_ways, cases_lt}

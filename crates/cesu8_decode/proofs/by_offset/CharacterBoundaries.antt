@@ -99,7 +99,8 @@ boundary_at_end f window bytes follows first =
 
 -- ---- zeros
 
--- If the second byte is less than 80 (hexadecimal), no character of two bytes or more begins.
+-- If b, the second of the six bytes, is less than 80 (hexadecimal), no character of two bytes or
+-- more begins them.
 low_second : (f : Flavor) (a b d e g h : ℕ) → b < 0x80 → first_width_by f a b d e g h ≤ 1
 unfolding first_width_by
 low_second f a b d e g h low = grind (arith, nat_tests)

@@ -2,7 +2,8 @@
 -- specs/Following). This module proves that the error mask that the code computes by table look-ups
 -- marks the bytes that cannot, and that the prefix that the blocks accept is that of the whole
 -- input. `lanes/following.rt` computes the mask and `prefix.rt` the prefix; the proofs of their
--- functions cite these lemmas. A lane is "marked" if it is at least 80 (hexadecimal).
+-- functions cite these lemmas. A lane is "marked" if it is at least 80 (hexadecimal). What the
+-- definitions say of offset i of a window is about its byte i + 4, which four bytes precede.
 use Rattle.std.proofs.Common.{◌≡◌, ℕ, ◌+◌, ◌<◌, ◌≤◌, ◌||◌, ⊎_elim, Bool, true, false, cond, List, [], ◌∷◌, map, length, get_or, replicate, eqb, leb, ltb, bit_or, refl, sym, ap, ◌∙◌, subst, arith, drop, ◌-◌, ◌++◌, not, add-zero, take}
 use Rattle.std.specs.List.{range_with_len, prefix_len}
 use Rattle.std.proofs.lemmas.Bool.{agree_below_at, leb-false, ltb-true, not-false, not-true, or_parts, cases_lt}

@@ -1,4 +1,5 @@
--- Operations on masks, by the tests that their bits represent.
+-- Operations on masks, by the tests that their bits represent: `HasBits a p` says that bit i of the
+-- number a is set exactly if i passes the test p. Other lemmas on masks of this crate cite these.
 use Rattle.std.proofs.Common.{◌≡◌, ℕ, ◌+◌, ◌-◌, ◌*◌, ◌/◌, ◌%◌, ◌^◌, ◌<◌, ◌≤◌, min, max, Bool, cond, true, false, not, ◌&&◌, ◌||◌, leb, ltb, ⊎_elim, List, map, length, get_or, bit_and, bit_or, pow-add, add_comm, one-mul, zero-mul, zero-add, add-zero, mod-eq_of_lt, mod-lt, refl, sym, ap, ◌∙◌, arith, Fits, w8, w64, replicate}
 use Rattle.std.specs.Int.{bit_at, bit_not, trailing_ones}
 use Rattle.std.specs.Int.Count.{trailing_of_zero}

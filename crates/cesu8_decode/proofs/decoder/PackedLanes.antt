@@ -1,5 +1,5 @@
--- Bytes that shuffles pack from one offset to the next: what is stored for a range of offsets, and
--- for the first offsets of a window.
+-- Windows whose bytes shuffles pack, some at a time (`write_nulls` and `write_replaced`, below
+-- src/pass/events): what is stored for a range of offsets, and for the first offsets of a window.
 use Rattle.std.proofs.Common.{◌≡◌, ℕ, zero, suc, ◌+◌, ◌-◌, ◌*◌, ◌/◌, ◌%◌, ◌^◌, ◌<◌, ◌≤◌, Bool, cond, eqb, List, [], ◌∷◌, ◌++◌, refl, sym, ap, ◌∙◌, subst, arith, length, take, get_or, append-nil, map, replicate, length-append, append_assoc, add-zero, zero-add, suc-add}
 use Rattle.std.specs.Int.{bit_at}
 use Rattle.std.specs.List.{flat_map, range_with_len}
@@ -50,7 +50,8 @@ range_most : (h : ℕ → List ℕ) (most a n : ℕ) → ((i : ℕ) → length (
 range_most h most a zero each = omega arith
 range_most h most a (suc n) each = omega (arith, length-append (h a) (flat_map h (range_with_len (a + 1) n)), each a, range_most h most (a + 1) n each)
 
--- What is written for lanes, by their offsets.
+-- What is written for lanes, by their offsets: g says which are dropped and d which are ill-formed,
+-- and b has their bytes.
 pub written_on_range : (g d : ℕ → Bool) (b : ℕ → ℕ) (a n : ℕ) →
     written (map g (range_with_len a n)) (map d (range_with_len a n)) (map b (range_with_len a n)) ≡ flat_map (λ i. written_for (g i) (d i) (b i)) (range_with_len a n)
 written_on_range g d b a zero = refl

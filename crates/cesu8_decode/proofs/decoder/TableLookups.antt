@@ -1,6 +1,7 @@
--- The code classifies a pair of bytes by three look-ups in tables of 16 entries, by `swizzle`.
--- These lemmas say that the lanes get the bits that the three entries have in common
--- (`table_bits_are`), and when these equal a given function of two bytes (`bits_by_halves`).
+-- `pair_classes` of src/lanes/following.rt classifies each pair of bytes by three look-ups in
+-- tables of 16 entries (`look_up`). These lemmas say that the lanes get the bits that the three
+-- entries have in common (`table_bits_are`), and when these equal a given function of two bytes
+-- (`bits_by_halves`).
 use Rattle.std.proofs.lemmas.Bool.Decides.{nat_tests}
 use Rattle.std.proofs.lemmas.Grind.{same_number_lists}
 use Rattle.std.proofs.Common.{◌≡◌, ℕ, ◌+◌, ◌*◌, ◌/◌, ◌%◌, ◌^◌, ◌<◌, Bool, true, false, ◌&&◌, List, ◌++◌, map, length, get_or, replicate, eqb, leb, ltb, bit_and, refl, sym, ap, ◌∙◌, arith, w8}

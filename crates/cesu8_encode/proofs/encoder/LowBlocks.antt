@@ -1,5 +1,6 @@
--- Blocks of a window without a byte of F0 or more (hexadecimal), for `write_nulls`: only null
--- characters change in them.
+-- Blocks of a window without a byte of F0 or more (hexadecimal), for `write_nulls` of
+-- src/blocks.rt: only null characters change in them. The block at offset i of a window begins with
+-- byte i + 2, since the two bytes before it and the one after its 32 bytes are read too.
 use Rattle.std.proofs.lemmas.Bool.Decides.{nat_tests}
 use Rattle.std.proofs.lemmas.Grind.{common_steps}
 use Rattle.std.proofs.Common.{◌≡◌, ℕ, zero, suc, ◌+◌, ◌<◌, ◌≤◌, Bool, false, List, ◌∷◌, map, refl, ap, ◌∙◌, arith, length, get_or, replicate, bit_and, bit_or}
@@ -28,7 +29,8 @@ low window i n room none k from to =
 
 -- ---- the lanes of such a block
 
--- What is written last for a byte: the byte, with the highest bit set if it is a null that changes.
+-- What is written last for the byte b, if x and y precede it: b, with the highest bit set if it is
+-- a null that changes.
 low_changed : (f : Flavor) (x y b n : ℕ) → is_at_least_f0 x ≡ false → is_at_least_f0 y ≡ false → is_at_least_f0 b ≡ false →
     bit_or b (bit_and (mask (is_null f b)) 0x80) ≡ changed f x y b n
 low_changed f x y b n hx hy hb = grind (arith, nat_tests, common_steps, or_zero)
@@ -37,7 +39,7 @@ module _ (f : Flavor) (window : List ℕ) where
   abbrev byte : ℕ → ℕ
   byte i = get_or window (i + 2) 0
 
-  -- The bytes with these bits set are the seconds of the block.
+  -- With these bits set, the bytes are what is written last for each byte of the block.
   low_seconds : (i n : ℕ) → Low window i (n + 2) →
       zip2 bit_or (map byte (range_with_len i n)) (zip2 bit_and (map (λ j. mask (is_null f (byte j))) (range_with_len i n)) (replicate n 0x80))
       ≡ map (changed_at f window) (range_with_len i n)

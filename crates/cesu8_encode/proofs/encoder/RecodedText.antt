@@ -1,5 +1,6 @@
 -- What is written for each byte of UTF-8, from the byte and its neighbors, is together the
--- encoding.
+-- encoding. `encoded_byte f x y b n` is what is written for the byte b, if x and y precede it and n
+-- follows. `encoded_bytes f v i n` is what is written for n bytes of v, from offset i + 2 on.
 use Rattle.std.proofs.lemmas.Bool.Decides.{nat_tests}
 use Rattle.std.proofs.lemmas.Grind.{common_steps}
 use Rattle.std.proofs.Common.{◌≡◌, ℕ, zero, suc, ◌+◌, ◌*◌, ◌/◌, ◌%◌, ◌<◌, ◌≤◌, true, false, List, [], ◌∷◌, ◌++◌, refl, sym, ap, ◌∙◌, arith, length, get_or, eqb, bit_and, bit_or, eqb-true}
@@ -99,7 +100,8 @@ third_offset f a b c d ha hb hc some =
 
 -- ---- what is written for one character
 
--- What is written for a character of four bytes is its surrogate pair.
+-- What is written for a character of four bytes is its surrogate pair, whose digits are w to z. The
+-- bytes p and q precede the character, and `encoded` is what is written for the rest.
 pair_written : (f : Flavor) (c w x y z p q : ℕ) (rest encoded : List ℕ) → IsPair c w x y z → p < 0xF0 → q < 0xF0 →
     ((p q : ℕ) → p < 0xF0 → q < 0xF0 → written f p q rest ≡ encoded) →
     written f p q ((0xF0 + (w + 1) / 4) ∷ (0x80 + ((w + 1) % 4 * 0x10 + x / 4)) ∷ (0x80 + (x % 4 * 0x10 + y)) ∷ (0x80 + z) ∷ rest)

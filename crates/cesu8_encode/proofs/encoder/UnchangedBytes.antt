@@ -1,5 +1,5 @@
 -- Blocks that are unchanged, because none of their bytes changes, nor one of the two before, for
--- `is_unchanged`.
+-- `is_unchanged` of src/blocks.rt. The block at offset i of a window begins with byte i + 2.
 use Rattle.std.proofs.lemmas.Bool.Decides.{nat_tests}
 use Rattle.std.proofs.lemmas.Grind.{common_steps}
 use Rattle.std.proofs.Common.{◌≡◌, ℕ, zero, suc, ◌+◌, ◌<◌, ◌≤◌, Bool, false, ◌||◌, List, [], ◌∷◌, map, refl, sym, ap, ◌∙◌, arith, length, get_or}
@@ -18,7 +18,8 @@ use Rattle.cesu8_encode.proofs.encoder.RecodedText.{or_zero}
 abbrev changes : Flavor → ℕ → Bool
 changes f b = is_null f b || is_at_least_f0 b
 
--- A byte is written unchanged if `changes` is false for it and for the two bytes before it.
+-- The byte b is written unchanged if `changes` is false for it and for the two bytes before it, x
+-- and y. The next byte n does not matter.
 unchanged_byte : (f : Flavor) (x y b n : ℕ) → changes f x ≡ false → changes f y ≡ false → changes f b ≡ false → encoded_byte f x y b n ≡ b ∷ []
 unchanged_byte f x y b n hx hy hb = grind (arith, nat_tests, common_steps, or_parts, or_zero)
 

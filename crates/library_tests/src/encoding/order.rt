@@ -36,7 +36,8 @@ fn is_reversed(flavor: Flavor, first: &Border, second: &Border) -> bool {
     flavor == Flavor::Mutf8 && is_ascii && is_null != (second.name == "U+0000")
 }
 
-/// Whether the encodings of two scalar values are in the order of their code units.
+/// Whether the encodings of two scalar values have the order of their code units, or the reverse
+/// order if `is_reversed` says so.
 fn is_as_units(alloc: Global, flavor: Flavor, first: &Border, second: &Border) -> bool {
     let (one, other) = (text_of(first), text_of(second));
     let Some(units) = order_of_units(alloc, one, other) else {
@@ -55,7 +56,7 @@ fn assert_as_units(rt: &impl Abort, alloc: Global, flavor: Flavor, first: &Borde
     }
 }
 
-/// Each scalar value of the table with each.
+/// Compares all pairs of scalar values of the table.
 #[test]
 fn orders_the_borders_by_code_units(rt: HostRuntime) {
     for first in &BORDERS {
@@ -146,7 +147,7 @@ fn assert_behind(
     assert_order(rt, alloc, &first, &second);
 }
 
-/// Asserts the order of each of the ends and each, after equal prefixes of this length.
+/// Asserts the order of all pairs of the ends, after equal prefixes of this length.
 fn assert_ends(rt: &impl Abort, alloc: Global, front: &str, len: usize) {
     for first in &ENDS {
         for second in &ENDS {
@@ -155,8 +156,8 @@ fn assert_ends(rt: &impl Abort, alloc: Global, front: &str, len: usize) {
     }
 }
 
-/// Each of the ends with each, after equal prefixes of up to 20 characters. The strings are
-/// compared several bytes at a time, and they differ at each offset of such a group.
+/// Compares all pairs of the ends, after equal prefixes of up to 20 characters. The call compares
+/// several bytes at a time, and the strings differ at each offset of such a group.
 #[test]
 fn compares_behind_equal_fronts(rt: HostRuntime) {
     for len in 0..21 {
@@ -173,7 +174,7 @@ fn assert_with_each(rt: &impl Abort, alloc: Global, front: &str, first: &str) {
     }
 }
 
-/// Each scalar value of the table with each, after each.
+/// Compares all pairs of scalar values of the table, after each scalar value of the table.
 #[test]
 fn compares_the_borders(rt: HostRuntime) {
     for front in &BORDERS {

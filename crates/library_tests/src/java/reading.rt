@@ -52,12 +52,14 @@ impl Due<'_> {
     }
 }
 
+// U+FFFD, as often as the name says: once for each damaged byte.
 const ONE: &str = "\u{FFFD}";
 
 const THREE: &str = "\u{FFFD}\u{FFFD}\u{FFFD}";
 
 const FOUR: &str = "\u{FFFD}\u{FFFD}\u{FFFD}\u{FFFD}";
 
+/// The Java string of U+1F496, and a byte after it.
 const PAIR: &[u8] = b"\x00\x06\xED\xA0\xBD\xED\xB2\x96\xFF";
 
 /// Input, and what the strict and the lossy calls have to return.

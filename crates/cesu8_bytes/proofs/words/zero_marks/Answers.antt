@@ -1,5 +1,5 @@
--- A byte of the difference gains its high bit only at a zero byte, or by the borrow of one below it
--- (`zero_test`).
+-- `zero_marks` subtracts 1 from each byte. A byte gains its high bit only if it is zero, or by a
+-- borrow that begins at a zero byte below it (`zero_test`).
 use Rattle.cesu8_bytes.proofs.lists.Words.{zero_test}
 use Rattle.cesu8_bytes.proofs.words.zero_marks.Goals as goal
 

@@ -1,4 +1,5 @@
--- `len` is three times the length less what the first `at` offsets save.
+-- `len` is three times the length, as if each byte became U+FFFD, less what the first `at` offsets
+-- save (`saved`).
 use Rattle.std.proofs.Common.{◌≡◌, ◌+◌, ◌*◌, ◌-◌, ◌≤◌, length, drop}
 use Rattle.cesu8_decode.specs.DecodedOffsets.{total_saved}
 use Rattle.cesu8_decode.proofs.lengths.lossy_len_by_steps.Given as goal

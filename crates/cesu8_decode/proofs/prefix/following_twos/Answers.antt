@@ -1,5 +1,5 @@
 -- `two_follow` says that each of the 64 bytes can follow the four before it, so the bytes without
--- an error now end 64 later.
+-- an error now end 64 later. `follow_up_to` counts from four bytes before the first of the 64.
 use Rattle.std.proofs.Common.{◌≡◌, ◌+◌, ◌-◌, subst, arith}
 use Rattle.cesu8_decode.specs.Following.{FirstFollow}
 use Rattle.cesu8_decode.proofs.decoder.ErrorMasks.{follow_up_to}

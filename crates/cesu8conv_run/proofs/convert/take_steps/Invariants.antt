@@ -1,4 +1,5 @@
--- The steps taken so far are one step.
+-- The steps that were taken so far are together one step: their result, `all`, is one that a single
+-- step may have.
 use Rattle.cesu8conv_run.specs.Steps.{IsStep}
 use Rattle.cesu8conv_run.proofs.convert.take_steps.Given as goal
 

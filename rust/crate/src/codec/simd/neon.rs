@@ -88,6 +88,7 @@ impl Vector for uint8x16_t {
         // SAFETY: an array of 16 bytes, and NEON.
         unsafe {
             let bits = vandq_u8(self, vld1q_u8(BIT_OF_LANE.as_ptr()));
+            // Three sums of neighbors join the bits of eight lanes in one byte.
             let bits = vpaddq_u8(bits, bits);
             let bits = vpaddq_u8(bits, bits);
             let bits = vpaddq_u8(bits, bits);

@@ -88,7 +88,7 @@ impl Vector for __m128i {
         unsafe { _mm_blendv_epi8(no, yes, self) }
     }
 
-    // There is no shift of bytes: words are shifted, and the bits that cross into a neighbour are
+    // There is no shift of bytes: words are shifted, and the bits that cross into a neighbor are
     // cleared.
     #[cfg_attr(not(debug_assertions), inline(always))]
     fn shl(self, by: u32) -> Self {
@@ -228,6 +228,7 @@ impl Vector for __m256i {
     fn run<R: Run>(self, second: Self) -> Self {
         // SAFETY: the level has the instructions.
         unsafe {
+            // The half that precedes each half of `second`: `alignr` works on each half alone.
             let middle = _mm256_permute2x128_si256::<0x21>(self, second);
             align!(_mm256_alignr_epi8(second, middle, const { R::BY }))
         }

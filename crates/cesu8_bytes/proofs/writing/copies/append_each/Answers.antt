@@ -3,7 +3,8 @@ use Rattle.std.proofs.Common.{◌≡◌, ℕ, ◌+◌, ◌<◌, ◌∙◌, List,
 use Rattle.std.proofs.lemmas.List.{take_more}
 use Rattle.cesu8_bytes.proofs.writing.copies.append_each.Goals as goal
 
--- After the first n bytes and the next one, the first n + 1 are appended.
+-- After the first n bytes and the next one, the first n + 1 are appended. `at` and `now` are the
+-- vector before and after the push of that byte.
 byte_more : (first bytes : List ℕ) (n : ℕ) (at now : List ℕ) → n < length bytes → at ≡ first ++ take n bytes →
     now ≡ at ++ get_or bytes n 0 ∷ [] → now ≡ first ++ take (n + 1) bytes
 byte_more first bytes n at now inside so_far pushed =

@@ -1,4 +1,5 @@
--- All bytes are decoded to the array, so a copy of that text to the slice is all that is promised.
+-- The array has the text of all bytes, so the promise follows from the copy of that text to the
+-- slice.
 use Rattle.std.proofs.Common.{arith}
 use Rattle.std.proofs.lemmas.List.{length-take}
 use Rattle.cesu8_decode.proofs.chunks.SliceReadings.{decoded_put}

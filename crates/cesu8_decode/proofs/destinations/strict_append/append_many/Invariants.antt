@@ -1,6 +1,6 @@
--- The text of the bytes before `rest` is appended, the first `len` bytes of `rest` are its
--- unchanged prefix, and the vector has the capacity for the rest. Each step shortens `rest`, so the
--- loop ends.
+-- The text of the bytes before `rest` is appended. The rest has more than 64 bytes, the first `len`
+-- of them are its unchanged prefix, and the vector has the capacity for it. Each step shortens the
+-- rest, so the loop ends.
 use Rattle.std.proofs.Common.{◌≡◌, ◌+◌, ◌<◌, ◌≤◌, length, vec_len, vec_capacity}
 use Rattle.cesu8_bytes.specs.TextChunks.{IsReadSoFar}
 use Rattle.cesu8_bytes.specs.declared.strictness.Strictness.TheVariants.{Strict}
