@@ -249,7 +249,7 @@ static void sprinkle(uint8_t *out, size_t length, size_t odd, character *charact
     }
 }
 
-// Replaces one of the first bytes, up to a number, by a byte that is not part of any encoded character.
+// Replaces one of the first `front` bytes by a byte that is not part of any encoded character.
 static void put_wrong_byte(uint8_t *out, size_t front)
 {
     static const uint8_t bytes[] = {0xC1, 0xF8, 0xFB, 0xFE, 0xFF};

@@ -281,8 +281,9 @@ in_java_units() {
     rm -r "$scratch/jdk"
 }
 
-# Input of more than one piece, with the end of a piece at each offset of a character; input that is damaged,
-# input that ends within a character, and empty input. Then reads and writes that fail.
+# Runs decode_pipe.c on input of more than one piece, with the end of a piece at each offset of a
+# character. Then on input that is damaged, that ends within a character, and that is empty, and
+# with reads and writes that fail.
 in_decode_pipe() {
     local program=$scratch/decode_pipe front
     compile -std=c99 -Wall -Wextra -Wconversion -pedantic -Werror -I "$unpacked/include" \
