@@ -37,7 +37,8 @@ struct call {
 #define WRITE(name) {#name "_to_slice", measured_##name##_to_slice, NULL, true}
 #define EACH(name) {#name, NULL, measured_##name##_each, false}
 
-// The expected result: the input's own bytes, other bytes, or none because the input is rejected.
+// The expected result: one that borrows the input; another one, such as a length, or what is
+// written to a buffer; or none because the input is rejected.
 enum outcome { BORROWED, OTHER, REFUSED };
 
 // The form in which a character is written.

@@ -179,7 +179,8 @@ sanitize_pieces() {
     fi
 }
 
-# Makes each allocation of cesu8_damage fail in turn. It has to report this, or do without:
+# Makes each of the first five allocations of cesu8_damage fail in turn, by requests.c, which writes
+# the size of each to descriptor 9. The program has to report the failure, or do without:
 # `refuse_memory FILE`.
 refuse_memory() {
     local refused status told=0
