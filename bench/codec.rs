@@ -155,7 +155,7 @@ pub struct Codec {
 }
 
 /// Finds a call of a shared object by its name. In other codecs and in older builds of this library
-/// the name begins with `cesu8_static_`.
+/// the name may begin with `cesu8_static_`.
 fn found_in(object: *mut c_void, call: &str) -> Option<*mut c_void> {
     let other_name = call.replacen("measured_", "cesu8_static_", 1);
     [call, &other_name].into_iter().find_map(|symbol| {

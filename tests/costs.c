@@ -37,7 +37,8 @@ struct call {
 #define WRITE(name) {#name "_to_slice", measured_##name##_to_slice, NULL, true}
 #define EACH(name) {#name, NULL, measured_##name##_each, false}
 
-// The expected result: the input's own bytes, other bytes, or none because the input is rejected.
+// The expected result: one that borrows the input; another one, such as a length, or what is
+// written to a buffer; or none because the input is rejected.
 enum outcome { BORROWED, OTHER, REFUSED };
 
 // The form in which a character is written.
@@ -249,7 +250,7 @@ static void sprinkle(uint8_t *out, size_t length, size_t odd, character *charact
     }
 }
 
-// Replaces one of the first bytes, up to a number, by a byte that is not part of any encoded character.
+// Replaces one of the first `front` bytes by a byte that is not part of any encoded character.
 static void put_wrong_byte(uint8_t *out, size_t front)
 {
     static const uint8_t bytes[] = {0xC1, 0xF8, 0xFB, 0xFE, 0xFF};

@@ -1,6 +1,6 @@
 # For tests/dist.sh: installs the release with install.sh, and builds callers there. It uses the
 # variables of that script and of tests/callers.sh. `has_pkg_config` and `has_cmake` are empty if
-# the tool is missing.
+# the tool is missing. `quietly` leaves the output of its command in $scratch/said.
 # shellcheck shell=bash disable=SC2154
 
 # Builds keys.c with pkg-config: `by_pkg_config LIBDIR WHAT`. LIBDIR is the folder of the libraries.
@@ -222,6 +222,7 @@ look_at_refusals() {
     refuses prefix
     refuses ./prefix lib
     refuses "$prefix" ../lib
+    # The release was unpacked to $scratch/empty, so this names the folder to install from.
     DESTDIR=$scratch/empty
     refuses "/$name"
     unset DESTDIR

@@ -179,7 +179,8 @@ sanitize_pieces() {
     fi
 }
 
-# Makes each allocation of cesu8_damage fail in turn. It has to report this, or do without:
+# Makes each of the first five allocations of cesu8_damage fail in turn, by requests.c, which writes
+# the size of each to descriptor 9. The program has to report the failure, or do without:
 # `refuse_memory FILE`.
 refuse_memory() {
     local refused status told=0
@@ -281,8 +282,9 @@ in_java_units() {
     rm -r "$scratch/jdk"
 }
 
-# Input of more than one piece, with the end of a piece at each offset of a character; input that is damaged,
-# input that ends within a character, and empty input. Then reads and writes that fail.
+# Runs decode_pipe.c on input of more than one piece, with the end of a piece at each offset of a
+# character. Then on input that is damaged, that ends within a character, and that is empty, and
+# with reads and writes that fail.
 in_decode_pipe() {
     local program=$scratch/decode_pipe front
     compile -std=c99 -Wall -Wextra -Wconversion -pedantic -Werror -I "$unpacked/include" \

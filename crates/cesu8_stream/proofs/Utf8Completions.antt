@@ -1,6 +1,6 @@
--- A part of a character of UTF-8 is completed by the bytes of a fixed one. There are two: after F4
--- the second byte has to be low (`low_bytes`), and after E0 and F0 it has to be high
--- (`high_bytes`).
+-- A part of a character of UTF-8 is completed by the last bytes of a fixed character, which is
+-- padded with zeros to six bytes. There are two: after ED and F4 the second byte has to be low
+-- (`low_bytes`), and after E0 and F0 it has to be high (`high_bytes`).
 use Rattle.std.proofs.Common.{◌≡◌, ℕ, ◌+◌, ◌*◌, ◌/◌, ◌%◌, ◌<◌, ◌≤◌, ◌⊎◌, List, [], ◌∷◌, ◌++◌, refl, ap, ◌∙◌, inl, inr, arith, length}
 use Rattle.std.proofs.lemmas.Bool.{cases_eq}
 use Rattle.simd_cesu8.specs.Text.{IsScalarValue, utf8}

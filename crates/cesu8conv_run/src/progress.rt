@@ -31,7 +31,8 @@ impl<'a> Progress<'a> {
         })
     }
 
-    /// Shows how many bytes were read, if the last line is old. A failure changes nothing.
+    /// Shows how many bytes were read, unless the last line is newer than `PERIOD`. If the clock or
+    /// the output fails, the conversion goes on.
     pub fn show(&mut self, offset: u64) {
         let Ok(passed) = self.start.elapsed(self.rt) else {
             return;
@@ -55,7 +56,7 @@ impl<'a> Progress<'a> {
         }
     }
 
-    /// Takes the line away.
+    /// Clears the line, if one is shown.
     pub fn end(&mut self) {
         if self.is_shown {
             let _ = eprint!(self.rt; "\r\x1b[K");

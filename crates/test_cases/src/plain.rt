@@ -83,8 +83,8 @@ fn width(flavor: Flavor, bytes: &[u8]) -> usize
     }
 }
 
-/// The character that these bytes encode, or U+FFFD for damage. Each byte holds some of the bits
-/// of the scalar value.
+/// The character that these bytes encode, or U+FFFD for no bytes, which stand for damage. Each byte
+/// holds some of the bits of the scalar value.
 fn character(bytes: &[u8]) -> char {
     let scalar = match bytes {
         [a] => u32::from(*a),

@@ -31,7 +31,8 @@ pub fn run(
     Ok(())
 }
 
-/// Decodes the damaged texts lossily, every second one after a call of `lossy_len`.
+/// Decodes the damaged texts lossily: by turns as UTF-8 or CESU-8, after a call of `lossy_len`, and
+/// as MUTF-8.
 fn replace_all(alloc: Global, texts: &Pool, digest: &mut Digest) -> Result<(), AllocError> {
     for index in 0..texts.len() {
         let bytes = texts.piece(index);

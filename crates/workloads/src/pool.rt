@@ -62,7 +62,7 @@ impl Pool {
         Ok(())
     }
 
-    /// Sets the letters of each piece for a round. They differ in each of 17,576 rounds.
+    /// Sets the letters of each piece for a round. No two of 17,576 rounds in a row have the same.
     pub fn renew(&mut self, round: u32) {
         let letters = [letter(round / 676), letter(round / 26), letter(round)];
         let bytes = self.bytes.as_mut_slice();

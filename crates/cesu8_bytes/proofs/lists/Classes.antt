@@ -1,5 +1,5 @@
 -- Vectors whose lanes mark the bytes of a class: what each comparison computes, and what a mask
--- says.
+-- says. The comparisons are those of `marks` in `src/lanes/class.rt`.
 use Rattle.std.proofs.Common.{◌≡◌, ℕ, Bool, false, not, cond, ◌||◌, ◌&&◌, ◌%◌, ◌^◌, ◌≤◌, ◌<◌, List, map, length, replicate, eqb, leb, ltb, refl, ap, ◌∙◌, arith, bit_and, bit_or, w8, Fits}
 use Rattle.std.specs.Prelude.{ℤ}
 use Rattle.std.proofs.lemmas.Bool.{agree_below_at}
@@ -43,11 +43,11 @@ pub least_marks : (least n : ℕ) (bytes : List ℕ) → length bytes ≡ n →
     map (to_z w8) (zip2 (λ a b. ones (leb a b)) (replicate n least) bytes) ≡ marks_of (leb least) bytes
 least_marks least n bytes long = marked (leb least) bytes _ (zip2_splat_left (λ a b. ones (leb a b)) least n bytes long)
 
--- A byte is F0 to F7 (hexadecimal) if its upper five bits are those of F0.
+-- A byte is F0 to F7 (hexadecimal) exactly if its upper five bits are those of F0.
 pub four_by_bits : (b : ℕ) → b < 0x100 → eqb (bit_and b 0xF8) 0xF0 ≡ is_four b
 four_by_bits b h = agree_below_at (λ b. eqb (bit_and b 0xF8) 0xF0) is_four 0x100 b refl h
 
--- A byte is a continuation byte if its upper two bits are those of 80 (hexadecimal).
+-- A byte is a continuation byte exactly if its upper two bits are those of 80 (hexadecimal).
 pub continues_by_bits : (b : ℕ) → b < 0x100 → eqb (bit_and b 0xC0) 0x80 ≡ (leb 0x80 b && ltb b 0xC0)
 continues_by_bits b h = agree_below_at (λ b. eqb (bit_and b 0xC0) 0x80) (λ b. leb 0x80 b && ltb b 0xC0) 0x100 b refl h
 

@@ -1,4 +1,5 @@
--- Vectors that are loaded from a window at different offsets, and padding with zeros.
+-- Vectors that are loaded from a window at different offsets, and padding with zeros. What a block
+-- of 32 bytes becomes depends on bytes next to it, so vectors from offsets near its own are loaded.
 use Rattle.std.proofs.Common.{◌≡◌, ℕ, ◌+◌, ◌≤◌, Bool, List, map, length, get_or, sym, ap, ◌∙◌, arith, zero, suc, [], ◌∷◌, ◌++◌, replicate, refl}
 use Rattle.std.specs.List.{range_with_len}
 use Rattle.std.proofs.lemmas.Bool.{cases_lt}

@@ -1,5 +1,5 @@
--- Characters that need conversion: how they are decoded, and how a padded prefix of the bytes shows
--- them.
+-- Characters that need conversion: how they are decoded, and how a prefix of the bytes shows them.
+-- The prefix has the first eight bytes, and zeros for those that are missing (`IsPrefixOf`).
 use Rattle.std.proofs.lemmas.Bool.Decides.{nat_tests}
 use Rattle.std.proofs.Common.{◌≡◌, ℕ, ◌↔◌, ◌≤◌, List, [], ◌∷◌, ◌++◌, sym, ap, ◌∙◌, subst, true, arith, length, drop, get_or, append-nil}
 use Rattle.cesu8_text.specs.Text.{utf8_of}

@@ -68,6 +68,8 @@ module _ (s : CharacterSet) (f : Flavor) (bytes : List ℕ) (n : ℕ) (whole : A
 
 -- ---- up to an offset that no character crosses
 
+-- What `is_ill_formed_at` says of a window at offset n is about its byte n + 5. `window_of` puts
+-- five zeros before the bytes, so here it is about byte n of the bytes.
 module _ (f : Flavor) (bytes : List ℕ) (n : ℕ) (fits : n ≤ length bytes) where
   -- No character covers an ill-formed byte.
   pub none_covers : n < length bytes → is_ill_formed_at f (window_of bytes) n ≡ true → IsCovered f bytes n → ⊥

@@ -1,5 +1,7 @@
 -- What the masks of a window say about its offsets, and where a window ends. The masks cover `n`
--- offsets; the bytes after these, 5 at most, end the last character.
+-- offsets; the bytes after these, 5 at most, end the last character. `window_of` is another kind of
+-- window, the bytes after five zeros. What `is_ill_formed_at` says of it at offset i is about its
+-- byte i + 5, which is byte i of the bytes.
 use Rattle.std.proofs.Common.{◌≡◌, ℕ, ◌+◌, ◌-◌, ◌<◌, ◌≤◌, ⊎_elim, true, false, List, length, get_or, ap, ◌∙◌, arith}
 use Rattle.std.specs.Int.{bit_at, trailing_zeros, w64}
 use Rattle.std.proofs.lemmas.Bool.{cases_lt, ne_eqb}

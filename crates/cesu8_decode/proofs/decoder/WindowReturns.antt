@@ -1,5 +1,6 @@
--- What functions return that write a window. Their proofs find these lemmas by search, so they name
--- no variable or branch, and a rewritten body keeps its proof.
+-- What functions return that write a window. The proofs of `write_well_formed` and `write_lossily`
+-- find the lemmas on padded bytes by search, so they name no variable or branch, and a rewritten
+-- body keeps its proof.
 use Rattle.std.proofs.Common.{false, ◌≡◌, ℕ, ◌+◌, ◌≤◌, List, [], ◌++◌, take, drop, replicate, length, ap, sym, subst, arith, length-drop}
 use Rattle.std.proofs.lemmas.List.{length-take-le, take-take}
 use Rattle.cesu8_text.specs.Encoding.{Flavor}
@@ -14,7 +15,8 @@ use Rattle.cesu8_decode.specs.declared.lanes.windows.Window.{Window}
 use Rattle.cesu8_decode.proofs.decoder.PaddedWindows.{alike_with_zeros, window_of_alike}
 use Rattle.cesu8_decode.proofs.decoder.WrittenWindows.{all_decoded, decoded_in, windows_alike, writes_window}
 
--- Of the bytes that are stored, the first `count` are those that are copied.
+-- A copy of `count` bytes from offset `at` to `end` stores `width` bytes. `n` is the end of the
+-- copied ones, and `m` that of the stored ones.
 pub first_copied : (width count at end m n : ℕ) (bytes old new : List ℕ) → n ≡ end + count → WritesAt (take width (drop at bytes)) end old new m →
     count ≤ width → at + width ≤ length bytes → end ≤ length old → WritesAt (take count (drop at bytes)) end old new n
 first_copied width count at end m n bytes old new is writes few inside room =

@@ -16,7 +16,7 @@ same_first : (f : Flavor) (c d : ℕ) (r q : List ℕ) → IsScalarValue c → I
 unfolding encoding form units_of
 same_first f c d r q scalar other_scalar same = grind (arith, nat_tests)
 
--- If bytes begin with two characters, these are equal, and so is what follows them.
+-- If bytes begin with c and also with d, these characters are equal, and so is what follows them.
 pub same_character : (f : Flavor) (bytes : List ℕ) (c d : ℕ) (r q : List ℕ) → BeginsWith f bytes c r → BeginsWith f bytes d q →
     (c ≡ d) × (r ≡ q)
 same_character f bytes c d r q begins other_begins =

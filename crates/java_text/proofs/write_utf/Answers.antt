@@ -1,5 +1,5 @@
--- The prover finds this goal by itself. But if an edit of must-fail makes the goal false, that
--- search meets a limit instead of showing that it is false.
+-- The prover proves this goal by itself too. But if an edit of must-fail makes the goal false, the
+-- prover's own search meets a limit instead of showing that.
 use Rattle.std.proofs.Common.{arith, rules, ◌∙◌}
 use Rattle.std.specs.Str.{chars}
 use Rattle.std.proofs.lemmas.Grind.{common_steps}

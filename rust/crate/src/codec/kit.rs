@@ -1,5 +1,6 @@
-//! What the codec uses of Rattle's kit: the test for UTF-8. `erase.py` replaces a file that uses
-//! the kit's crate `simdutf8` by the functions here that have the names of that file's.
+//! What the codec uses of Rattle's kit: the test for UTF-8. If a file of the codec uses the kit's
+//! crate `simdutf8`, `erase.py` replaces that file's public functions by the functions here with
+//! the same names.
 
 /// Returns whether the bytes are UTF-8.
 #[inline(never)]

@@ -1,6 +1,7 @@
 //! What the codec uses of Rattle's `std::alloc`. There an allocator is an argument, and an
 //! allocation may fail. Here it is the global one, and an allocation that fails ends the process,
-//! as with every collection of Rust.
+//! as with every collection of Rust. With debug assertions `inline(always)` is left out, since it
+//! would make a debug build take minutes.
 
 use alloc::vec::Vec;
 use core::slice::SliceIndex;

@@ -17,6 +17,7 @@ loop-offset-preserved g c =
     same_further c.args.bytes.now c.args.other.now c.loop-offset.offset c.loop-offset.offset g.row.N (omega arith)
     c.loop-offset.invariant (λ i before. c.equal_lanes-same.ensures.same i (omega arith))
 
+-- The last vector begins at or before the offset, so no byte that it covers again differs.
 pub returns : goal.returns
 returns g c = record {
   within = omega arith;

@@ -1,5 +1,5 @@
--- Masking the word masks each of its bytes. The masked word is the constant if and only if each
--- byte has the bits that the pattern of a pair gives it.
+-- Masking the word masks each of its bytes. The masked word is the constant if and only if each of
+-- its first six bytes has the bits that the pattern of a pair gives it. The other two are cleared.
 use Rattle.std.proofs.Common.{◌∙◌, ◌+◌, ◌*◌, ◌<◌, ℕ, ap, sym, get_or, bit_and, arith}
 use Rattle.std.proofs.lemmas.Bool.{eqb-true, eq-eqb}
 use Rattle.cesu8_bytes.proofs.chunks.PairWords.{word_decides}

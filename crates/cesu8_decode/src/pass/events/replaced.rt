@@ -1,4 +1,4 @@
-//! Writes the text of a window in which many bytes are ill-formed, and which has no other event.
+//! Writes the text of a window that has many runs of ill-formed bytes, and no other event.
 //!
 //! Four bytes at a time are packed by a shuffle that puts the replacement character in place of
 //! each ill-formed byte, with no branch on a byte.

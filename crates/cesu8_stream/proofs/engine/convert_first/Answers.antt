@@ -1,5 +1,6 @@
--- The text with the fewest bytes at the start of the input is the first character. So if it does
--- not fit the buffer, no character does.
+-- Nothing is read in two cases. After `Some`, no character begins the input. After `None`, the text
+-- with the fewest bytes at the start of the input does not fit the buffer. It is the first
+-- character, so no character that begins the input fits.
 use Rattle.std.proofs.Common.{◌≡◌, length, inl, inr, arith}
 use Rattle.std.proofs.lemmas.Bool.{cases_lt}
 use Rattle.cesu8_stream.proofs.First.{Sizes, shortest_is_first}

@@ -1,4 +1,5 @@
--- Steps are taken after the bytes that were taken before, and what they became is written.
+-- Each round takes steps on the bytes that are left, and writes their output. So what was taken so
+-- far and what was written always belong together (`takes-more`).
 use Rattle.cesu8conv_run.proofs.Pieces.{takes-none, takes-more, takes-some, breaks-more, all-taken, damage-after}
 use Rattle.cesu8conv_run.proofs.convert.convert_piece.Goals as goal
 

@@ -1,5 +1,5 @@
--- A strict step is a lossy one, and if it stopped at the first byte, U+FFFD is the lossy conversion
--- of that byte.
+-- Each conversion of `Decode` is also one of `Lossy`. If the strict step stopped at the first byte,
+-- this byte is damaged, and U+FFFD is its lossy conversion (`replace`).
 use Rattle.cesu8conv_run.proofs.Steps.{replaced-step, lossy-of-decoded, lossy-replaces}
 use Rattle.cesu8conv_run.specs.declared.conversion.Conversion.TheVariants.{Decode, Lossy}
 use Rattle.cesu8conv_run.proofs.step.lossy_step.Goals as goal

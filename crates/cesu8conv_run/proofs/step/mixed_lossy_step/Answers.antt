@@ -1,5 +1,5 @@
--- A mixed step is a mixed lossy one, and if it stopped at the first byte, U+FFFD replaces that
--- byte.
+-- Each conversion of `Mixed` is also one of `MixedLossy`. If the mixed step stopped at the first
+-- byte, this byte is damaged, and U+FFFD is its conversion by `MixedLossy` (`replace`).
 use Rattle.cesu8conv_run.proofs.Steps.{replaced-step, mixed-lossy-of-mixed, mixed-replaces}
 use Rattle.cesu8conv_run.specs.declared.conversion.Conversion.TheVariants.{Mixed, MixedLossy}
 use Rattle.cesu8conv_run.proofs.step.mixed_lossy_step.Goals as goal

@@ -1,4 +1,5 @@
--- All bytes are decoded to the array, so a copy of that text to the slice is all that is promised.
+-- All bytes are decoded to the array. Then the copy to the slice returns what the contract
+-- promises: the text's length, or an error with this length if it does not fit (`decoded_put`).
 use Rattle.std.proofs.Common.{arith}
 use Rattle.std.proofs.lemmas.List.{length-take}
 use Rattle.cesu8_decode.proofs.chunks.SliceReadings.{decoded_put}

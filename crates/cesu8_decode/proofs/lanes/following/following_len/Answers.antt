@@ -1,4 +1,5 @@
--- The lanes before the first error are bytes that can follow, and the byte after them cannot.
+-- The block has 32 lanes. Those before the first error are bytes that can follow the bytes before
+-- them, and the first error is at a byte that cannot.
 use Rattle.cesu8_decode.proofs.decoder.ErrorMasks.{within, passed, stopped}
 use Rattle.cesu8_decode.proofs.lanes.following.following_len.Goals as goal
 

@@ -1,5 +1,6 @@
 -- The characters that need conversion and begin with C0 are C0 80. The others are surrogate pairs,
--- and no byte is ill-formed. So their masks are those of the window.
+-- and no byte is ill-formed. So their masks are those of the window. The bytes are the first `len`
+-- of `source`, which has zeros after them. Its first `width` bytes are tested as one vector.
 use Rattle.std.proofs.Common.{◌≡◌, ℕ, ◌+◌, ◌^◌, ◌<◌, ◌≤◌, ◌&&◌, Bool, true, false, true≢false, List, map, ltb, eqb, length, take, bit_and, get_or, refl, ap, sym, ◌∙◌, subst, arith, w64, zero-add}
 use Rattle.std.specs.Int.{bit_not}
 use Rattle.std.proofs.lemmas.List.{length-take-le}

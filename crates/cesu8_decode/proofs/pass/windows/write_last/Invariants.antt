@@ -1,6 +1,6 @@
--- Before each round the pass has gone on from `before` to `pass`, window by window, by the bytes of
--- the array. Each round reads at least one byte. A pass that has read nothing can go on (`fresh`),
--- so `write_last` reads something.
+-- Before each round the pass has gone on from `before` to `pass`, window by window. Each round
+-- reads at least one byte. A pass that has not read anything yet can go on (`fresh`), so
+-- `write_last` reads something.
 use Rattle.std.proofs.Common.{◌≡◌, ◌-◌, ◌≤◌, false, length}
 use Rattle.cesu8_decode.specs.Decoding.{GoesOn}
 use Rattle.cesu8_decode.proofs.pass.windows.write_last.Given as goal
