@@ -1,6 +1,6 @@
-//! Draws some rows of the tables. For each build of this library there is a bar from 1 to the ratio of
-//! its speed to that of the fastest other codec of the run. It points to the left if the library is
-//! slower.
+//! Draws some rows of the tables. For each build of this library there is a bar from 1 to the ratio
+//! of its speed to that of the fastest other codec of the run. It points to the left if the library
+//! is slower.
 
 use crate::codec::{Action, Codec, FLAVORS, Flavor, encoding_title};
 use crate::grid::{Column, Entry, Grid, grouped, nanoseconds, two_digits};
@@ -23,7 +23,8 @@ enum Source {
     Hostile(Action),
 }
 
-/// Some rows of one call at one length.
+/// Some rows of one call at one length, by their names in the table. A row that the table lacks, or
+/// lacks for one of the encodings, has no bar there.
 struct Panel {
     title: &'static str,
     bytes: usize,

@@ -2,9 +2,9 @@
 //!
 //!     plain CALL ENCODING
 //!
-//! It reads bytes from standard input, and writes the result that the call must return for them. The
-//! status is 1 if the call must reject them. CALL is a name such as `decode_strict`, and ENCODING is
-//! `cesu8` or `mutf8`.
+//! It reads bytes from standard input, and writes the result that the call must return for them.
+//! The status is 1 if the call must reject them. CALL is a name such as `decode_strict`, and
+//! ENCODING is `cesu8` or `mutf8`.
 
 mod actions;
 mod expected;

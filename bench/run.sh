@@ -22,7 +22,8 @@ kit=$(dirname "$(dirname "$(readlink -f "$(command -v rt)")")")
 cpu=x86-64-v2
 against=
 tables=
-# Arguments that are not for this script are passed to the driver.
+# Arguments that are not for this script are passed to the driver: each is appended again after the
+# `left` arguments that are still to be read.
 left=$#
 while [ "$left" -gt 0 ]; do
     word=$1

@@ -1,6 +1,7 @@
-// Decodes and encodes Python strings with the library's calls. Python's own error handlers for damage
-// are implemented here. Other error handlers, and all for surrogates, are called by cesu8/_codec.py.
-// Only native.c includes this file. Nothing in it is proved.
+// Decodes and encodes Python strings with the library's calls. Python's own error handlers for
+// damaged bytes are implemented here. Other error handlers, and all handlers for surrogates in a
+// string to encode, are called by cesu8/_codec.py. Only native.c includes this file. Nothing in it
+// is proved.
 
 #include <Python.h>
 #include "cesu8.h"
@@ -40,17 +41,17 @@ struct input {
     size_t length;
 };
 
-// What to decode: the bytes from `start` to `stop` of an immutable object. A handler may continue at
-// any offset up to `end`. If `is_held`, Python keeps the caller's data locked during the call, so the
-// interpreter lock is not released.
+// What to decode: the bytes from `start` to `stop` of an immutable object. A handler may continue
+// at any offset up to `end`. If `is_held`, Python keeps the caller's data locked during the call,
+// so the interpreter lock is not released.
 struct part {
     PyObject *data;
     Py_ssize_t start, stop, end;
     int is_mutf8, is_held;
 };
 
-// Returns bytes objects as they are, and one copy of other data, so that nothing can change while it
-// is decoded.
+// Returns bytes objects as they are, and one copy of other data, so that nothing can change while
+// it is decoded.
 static PyObject *bytes_of(PyObject *data)
 {
     if (PyBytes_CheckExact(data))
@@ -62,8 +63,8 @@ static PyObject *bytes_of(PyObject *data)
 }
 
 // Gets the bytes of a view. The stable interface has this function in every Python 3, and Py_buffer
-// only from 3.11 on. Headers up to 3.12 deprecate it because it does not lock the data, but the view
-// already does.
+// only from 3.11 on. Headers up to 3.12 deprecate it because it does not lock the data, but the
+// view already does.
 PyAPI_FUNC(int) PyObject_AsReadBuffer(PyObject *data, const void **bytes, Py_ssize_t *length);
 #pragma GCC diagnostic ignored "-Wdeprecated-declarations"
 
@@ -102,8 +103,8 @@ static PyObject *text_of(const uint8_t *utf8, size_t length)
     return PyUnicode_DecodeUTF8((const char *)utf8, (Py_ssize_t)length, NULL);
 }
 
-// Fast path for `bytes.decode`, which passes only a view: decodes up to FEW valid bytes on the stack,
-// without an object for the copy. Otherwise the result is null.
+// Fast path for `bytes.decode`, which passes only a view: decodes up to FEW valid bytes on the
+// stack, without an object for the copy. Otherwise the result is null.
 static PyObject *text_of_few(
     int is_mutf8, PyObject *const *given, Py_ssize_t count, Py_ssize_t *length)
 {
@@ -175,8 +176,8 @@ static int is_cut(int is_mutf8, struct input input)
     return progress.status == CESU8_INCOMPLETE && progress.read == 0;
 }
 
-// Returns the offset of an incomplete character at the end of the part, or the end if there is none.
-// With `surrogatepass` the second of two surrogates is a character too.
+// Returns the offset of an incomplete character at the end of the part, or the end if there is
+// none. With `surrogatepass` the second of two surrogates is a character too.
 static Py_ssize_t before_cut(const struct part *part, const char *errors)
 {
     int is_passed = strcmp(errors, "surrogatepass") == 0;
@@ -201,10 +202,10 @@ static PyObject *error_at(int is_mutf8, PyObject *data, Py_ssize_t place, Py_ssi
         place, place + 1, reason);
 }
 
-// Replaces the first byte of `left` as one of Python's error handlers does: writes at most four bytes
-// to the output, and advances both. Returns 0 if the handler would raise, or is not one of Python's.
-// `surrogateescape` writes U+DC00 plus the byte, and `surrogatepass` copies an encoded surrogate. A
-// surrogate has three bytes.
+// Replaces the first byte of `left` as one of Python's error handlers does: writes at most four
+// bytes to the output, and advances both. Returns 0 if the handler would raise, or is not one of
+// Python's. `surrogateescape` writes U+DC00 plus the byte, and `surrogatepass` copies an encoded
+// surrogate. A surrogate has three bytes.
 static int replace(const char *errors, struct input *left, uint8_t **output)
 {
     uint8_t byte = *left->bytes;
@@ -228,9 +229,9 @@ static int replace(const char *errors, struct input *left, uint8_t **output)
     return 1;
 }
 
-// Decodes a part up to the first byte for which `replace` returns 0, and sets `place` to its offset.
-// For `strict` the text is empty, since an exception follows. The handlers whose names begin with
-// "surr" write surrogates.
+// Decodes a part up to the first byte for which `replace` returns 0, and sets `place` to its
+// offset. For `strict` the text is empty, since an exception follows. The handlers whose names
+// begin with "surr" write surrogates.
 static PyObject *front(const struct part *part, const char *errors, Py_ssize_t *place)
 {
     struct input left = between(part->data, part->start, part->stop);
@@ -256,8 +257,8 @@ static PyObject *front(const struct part *part, const char *errors, Py_ssize_t *
     return text;
 }
 
-// Decodes a part, up to the first byte for which a handler must be called or an exception raised, and
-// sets `place` to its offset, or to the end of the part.
+// Decodes a part, up to the first byte for which a handler must be called or an exception raised,
+// and sets `place` to its offset, or to the end of the part.
 static PyObject *decoded(
     const struct part *part, int is_lenient, const char *errors, Py_ssize_t *place)
 {

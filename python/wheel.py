@@ -34,6 +34,7 @@ Root-Is-Purelib: false
 Tag: {tag}
 """
 
+# The second MIT license is that of `simdutf8`, of which the library contains parts.
 METADATA = """\
 Metadata-Version: 2.4
 Name: cesu8

@@ -465,7 +465,8 @@ class Eraser:
         return bool(re.search(rf"[<,]\s*{name}\s*>", item))
 
     def functions(self, tokens):
-        """Puts the body of each function that is not always inlined into one of its level.
+        """Puts the body of each function into one of its level, unless it is always inlined and has
+        vectors in its signature.
 
         `at_level!` of the shim makes that one, and calls it. A method is inlined instead.
         """

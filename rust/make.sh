@@ -3,7 +3,7 @@
 #   rust/make.sh FOLDER
 # FOLDER gets a folder for each of these packages, with its version in the name. They need nothing
 # else. The codec in the first is the source in crates without its contracts (erase.py); the rest is
-# rust/crate.
+# rust/crate. The second has the version of the crate that it replaces.
 set -euo pipefail
 unset CDPATH
 export LC_ALL=C

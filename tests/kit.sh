@@ -1,5 +1,5 @@
-# The scripts that run the kit's `rt` source this file: if `rt` is not on the PATH, the script prints one
-# line and ends with status 2.
+# The scripts that run the kit's `rt` source this file: if `rt` is not on the PATH, the script
+# prints one line and ends with status 2.
 # shellcheck shell=sh
 
 if ! command -v rt >/dev/null; then

@@ -1,7 +1,8 @@
 /* Reports a program's allocations, and makes one fail. `cc -shared` makes a library of it, which
    LD_PRELOAD loads before the C library. Each allocation writes its size to descriptor 9, as a
    line. The variable REFUSED is the number of the allocation that fails, counted from 1; without it
-   none fails. tests/requests.sh, tests/memory.sh and tests/run_examples.sh use this file. */
+   none fails. The tested programs allocate by `malloc` and `realloc` alone. tests/requests.sh,
+   tests/memory.sh and tests/run_examples.sh use this file. */
 
 #define _GNU_SOURCE
 #include <dlfcn.h>

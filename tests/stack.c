@@ -6,11 +6,12 @@
 // has changed shows how deep the call went. Memory below it that a function reserves and never
 // writes is not seen.
 //
-// The inputs are the texts below, repeated up to several lengths, each without a fault and with each
-// fault at the start, in the middle and at the end. The lengths are those from which the library
-// decodes in another way. The buffer is large enough, or half as long as the input.
+// The inputs are the texts below, repeated up to several lengths, each without a fault and with
+// each fault at the start, in the middle and at the end. The lengths cover each way in which the
+// library decodes. The buffer is large enough, or half as long as the input.
 //
-// Link it with `-z now`: otherwise the first call of `memcpy` goes through the loader, which uses more.
+// Link it with `-z now`: otherwise the first call of `memcpy` goes through the loader, which uses
+// more.
 
 #define _DEFAULT_SOURCE
 

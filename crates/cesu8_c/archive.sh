@@ -49,10 +49,10 @@ option() {
     esac
 }
 
-# rt gives each function and each table a section of its own, and the archive keeps these sections. So
-# a program that is linked with --gc-sections contains only what its calls reach. Functions are
-# aligned to 32 bytes: otherwise the code before a short function changes its time by a tenth. Rows of
-# tables are aligned to 16.
+# rt gives each function and each table a section of its own, and the archive keeps these sections.
+# So a program that is linked with --gc-sections contains only what its calls reach. Functions are
+# aligned to 32 bytes: otherwise the code before a short function changes its time by a tenth. Rows
+# of tables are aligned to 16.
 #
 # The code for x86-64-v2 is built last, so that out/ holds it: it is what rt builds by default.
 for level in $levels; do

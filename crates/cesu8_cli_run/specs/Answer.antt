@@ -33,7 +33,8 @@ abbrev pub IsYesOrNo : Type 0 → List ℕ → Type 0
 IsYesOrNo fact bytes =
     (fact × (bytes ≡ line_with (codes "yes"))) ⊎ ((¬ fact) × (bytes ≡ line_with (codes "no")))
 
--- Whether the text whose UTF-8 the input is needs encoding, or the error that it is not UTF-8.
+-- The line that says whether the input's text needs encoding, or the error that the input is not
+-- UTF-8.
 abbrev pub IsNeedsAnswer : Flavor → List ℕ → Result (List ℕ) RunFault → Type 0
 IsNeedsAnswer f input (Ok bytes) =
     (text : List ℕ) × IsUtf8Of text input × IsYesOrNo (NeedsEncoding f text) bytes

@@ -64,7 +64,8 @@ pub record AreMasks (f : Flavor) (bytes : List ℕ) (at n : ℕ) (masks : Masks)
   pub nulls : Marks masks.nulls (is_null_at f bytes) at n
 
 -- The window holds the events of the bytes from `at` on, up to the end of the last character that
--- begins at one of n offsets.
+-- begins at one of n offsets. `window_of bytes` has five zeros before the bytes, so what
+-- `is_ill_formed_at` says of it at offset i is about byte i of the bytes.
 pub record IsWindow (f : Flavor) (bytes : List ℕ) (at : ℕ) (window : Window) : Type 0 where
   pub n : ℕ
   pub few : n ≤ 64
@@ -86,7 +87,7 @@ pub record HoldWindow (f : Flavor) (bytes : List ℕ) (at width : ℕ) (window :
   pub few : window.len ≤ width
   pub after : at + window.len + width ≤ length bytes
 
--- Row `ill_formed` is the shuffle that puts the replacement character in place of those of four
--- bytes whose bit is set.
+-- Row `ill_formed` is a shuffle of four bytes: it puts the replacement character in place of each
+-- byte whose bit is set in `ill_formed`, and keeps the others.
 abbrev pub AreShufflesOfReplaced : List (List ℕ) → Type 0
 AreShufflesOfReplaced rows = (ill_formed : ℕ) → ill_formed < 0x10 → slice_index_or rows ill_formed [] ≡ shuffle_keeping (kept_of 0 ill_formed 0 4)

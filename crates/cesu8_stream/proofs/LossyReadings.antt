@@ -54,7 +54,7 @@ pub record IsReading (from to reading : List ℕ → List ℕ) : Type 0 where
   pub text : (text more : List ℕ) → IsText text → reading (from text ++ more) ≡ text ++ reading more
   pub damage : (byte : ℕ) (more : List ℕ) → BeginsNone from (byte ∷ more) → reading (byte ∷ more) ≡ 0xFFFD ∷ reading more
 
--- What was converted was read.
+-- What was converted was read: n bytes, for which w bytes were written.
 pub converted_on : (from to reading : List ℕ → List ℕ) (is_last : Bool) (bytes old new : List ℕ) (n w : ℕ) →
     IsReading from to reading → Converts from to bytes n w old new → ReadsOn reading is_last bytes n w old new
 converted_on from to reading is_last bytes old new n w facts moves = (
@@ -68,7 +68,7 @@ converted_on from to reading is_last bytes old new n w facts moves = (
       ap reading whole ∙ facts.text moves.0 (drop n bytes ++ more) moves.1.0),
 )
 
--- Two steps in a row are one.
+-- Two steps in a row are one. The first reads m bytes and writes w, and the second n and v.
 pub read_on : (reading : List ℕ → List ℕ) (is_last : Bool) (bytes old mid new : List ℕ) (m w n v : ℕ) →
     ReadsOn reading is_last bytes m w old mid → ReadsOn reading is_last (drop m bytes) n v (drop w mid) new →
     ReadsOn reading is_last bytes (m + n) (w + v) old (take w mid ++ new)

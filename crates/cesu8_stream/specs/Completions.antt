@@ -10,7 +10,8 @@ pair_bytes = 0xED ∷ 0xA0 ∷ 0x80 ∷ 0xED ∷ 0xB0 ∷ 0x80 ∷ []
 abbrev pub null_bytes : List ℕ
 null_bytes = 0xC0 ∷ 0x80 ∷ 0 ∷ 0 ∷ 0 ∷ 0 ∷ []
 
--- In UTF-8: U+100000, whose second byte is low (80), and U+20000, whose second byte is high (A0).
+-- In UTF-8: U+100000, whose second byte 80 may follow each lead byte but E0 and F0, and U+20000,
+-- whose second byte A0 may follow these two.
 abbrev pub low_bytes : List ℕ
 low_bytes = 0xF4 ∷ 0x80 ∷ 0x80 ∷ 0x80 ∷ 0 ∷ 0 ∷ []
 

@@ -20,6 +20,7 @@ pub struct Target<'a> {
     pub name: &'a str,
     /// The file that is written in its place, and what it replaces at the end.
     draft: Option<Draft>,
+    /// How many bytes were written.
     pub written: u64,
 }
 
@@ -82,6 +83,7 @@ impl Write for Target<'_> {
     }
 
     fn flush(&mut self) -> io::Result<()> {
+        // Neither sink has a buffer.
         Ok(())
     }
 }

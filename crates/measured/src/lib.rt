@@ -4,8 +4,9 @@
 //! calls the library, and copies the result to the start of `buf` if it fits. So with an empty
 //! `buf` it costs as much as the library's call, and returns the length of the result. The calls
 //! whose names end in `to_slice` write to `buf` directly. Calls that take a text first test the
-//! input for UTF-8, and this test is measured too. The calls on many texts test all of them at
-//! once, so there its cost is small.
+//! input for UTF-8, and this test is measured too. The calls whose names end in `each` take texts
+//! of `length` bytes, one after another, and add up the results for all of them, `times` times.
+//! They test all texts at once, so there the cost of the test is small.
 //!
 //! The exports have no contracts: they are only proved to be safe and to return. The driver of
 //! `bench` compares their results with a plain codec before it measures.

@@ -127,7 +127,8 @@ fn rooms_about(needed: usize) -> Range<usize> {
     first..needed.saturating_add(2)
 }
 
-/// The bytes that a call with this outcome has to write, if there are any.
+/// The bytes that a call with this outcome has to write, if there are any. The plain decoder never
+/// returns `Memory`.
 fn due_of(expected: Outcome<'_>) -> Option<&[u8]> {
     match expected {
         Outcome::Borrowed(text) | Outcome::Owned(text) => Some(text.as_bytes()),

@@ -25,7 +25,8 @@ pub fn run(
     Ok(())
 }
 
-/// Decodes the strings one after another, and encodes all of them to one buffer.
+/// Decodes the strings one after another, and encodes all of them to one buffer. A failed read adds
+/// 1 to the digest, and a failed write 2.
 fn copy_all(alloc: Global, pool: &Pool, digest: &mut Digest) -> Result<(), AllocError> {
     let mut written = Vec::new(alloc);
     let mut rest = pool.bytes();

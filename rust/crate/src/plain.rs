@@ -13,8 +13,8 @@ use core::cmp::Ordering;
 use crate::panics::capacity_overflow;
 use crate::{DecodingError, SliceError, utf8};
 
-// The functions take the encoding as an argument, so that a program has one copy of each. Those that
-// are not inlined would otherwise be copied into the calls of both.
+// The functions take the encoding as an argument, so that a program has one copy of each. Those
+// that are not inlined would otherwise be copied into the calls of both.
 
 /// The bytes of a surrogate pair.
 const PAIR: usize = 6;

@@ -1,5 +1,5 @@
--- Words as their bytes, the first in the lowest bits. A mask acts on each byte by itself, and
--- subtracting 1 from each byte decides whether one is 0.
+-- Words as their bytes, the first in the lowest bits, for the tests in src/words.rt. A mask acts on
+-- each byte by itself, and subtracting 1 from each byte decides whether one is 0.
 use Rattle.std.proofs.Common.{◌≡◌, ℕ, Bool, true, not, IsTrue, ◌+◌, ◌-◌, ◌*◌, ◌/◌, ◌%◌, ◌^◌, ◌<◌, ◌↔◌, ◌||◌, List, [], ◌∷◌, refl, sym, ap, ◌∙◌, subst, zero, suc, length, get_or, ⊎_elim, arith, bit_and, eqb, map}
 use Rattle.std.specs.List.{Any}
 use Rattle.std.specs.Int.{to_le_bytes, w64}
@@ -96,8 +96,9 @@ inverse : (bytes : List ℕ) → AreBytes bytes → word_of bytes + inverted byt
 inverse [] h = refl
 inverse (b ∷ bytes) h = omega (arith, inverse bytes h.1)
 
--- Some byte of a word is 0 if and only if its marks are not 0. The code computes them by this
--- formula: adding FEFEFEFEFEFEFEFF (hexadecimal) modulo 2^64 subtracts 0101010101010101.
+-- Some byte of a word is 0 if and only if its marks are not 0. The function `zero_marks` of
+-- src/words.rt computes them by this formula: adding FEFEFEFEFEFEFEFF (hexadecimal) modulo 2^64
+-- subtracts 0101010101010101.
 pub zero_test : (w : ℕ) → w < 2 ^ 64 →
     (bit_and (bit_and ((w + 0xFEFEFEFEFEFEFEFF) % 2 ^ 64) (0xFFFFFFFFFFFFFFFF - w)) 0x8080808080808080 ≡ 0 → ⊥)
     ↔ Any (λ b. b ≡ 0) (to_le_bytes w64 w)

@@ -160,6 +160,8 @@ pub not_reached : (f : Flavor) (window : List ℕ) (i : ℕ) → is_ill_formed_a
     width_at f window (i + s) + s < 6
 not_reached f window i ill_formed s small = grind (arith, nat_tests, width_bounds)
 
+-- What `is_ill_formed_at` and `is_boundary_at` say of a window at offset i is about its byte i + 5.
+-- The bytes follow five others in this window, so here that is byte i of the bytes.
 module _ (f : Flavor) (window bytes : List ℕ) (follows : Follows window bytes 5) (first : is_boundary_at f window 0 ≡ true) where
   -- A byte that is not ill-formed is covered.
   pub covered_where : (i : ℕ) → i < length bytes → is_ill_formed_at f window i ≡ false → IsCovered f bytes i

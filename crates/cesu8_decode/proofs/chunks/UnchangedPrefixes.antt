@@ -103,8 +103,8 @@ module _ (f : Flavor) (bytes : List ℕ) (n : ℕ) (prefix : IsLongestPrefix Unc
 
 -- ---- input that is returned unchanged
 
--- The prefix decides whether a call returns its input unchanged, unless there is another reason to
--- return it.
+-- `are_kept` says when a call returns its input unchanged. `IsPrefixUnlessKept` holds of the
+-- unchanged prefix if that is all of the bytes exactly when `are_kept` holds.
 pub found_unless_kept : (f : Flavor) (are_kept : Type 0) (bytes : List ℕ) (prefix : UnchangedPrefix) → IsUnchangedPrefix f bytes prefix →
     (IsUnchangedUtf8 f bytes → are_kept) → (are_kept → prefix.len ≡ length bytes) → IsPrefixUnlessKept f are_kept bytes prefix
 found_unless_kept f are_kept bytes prefix found stays only = record {
@@ -112,7 +112,7 @@ found_unless_kept f are_kept bytes prefix found stays only = record {
   prefix = λ other. record { found = found; more = more_after Unchanged f bytes prefix.len found.len other };
 }
 
--- If a call returns its input unchanged, the prefix is all bytes.
+-- If the call returns its input, `IsPrefixUnlessKept` holds of any prefix that is all of the bytes.
 pub all_kept : (f : Flavor) (are_kept : Type 0) (bytes : List ℕ) (prefix : UnchangedPrefix) → prefix.len ≡ length bytes → are_kept →
     IsPrefixUnlessKept f are_kept bytes prefix
 all_kept f are_kept bytes prefix all is = record { kept = (λ _. is, λ _. all); prefix = λ other. absurd (other all) }

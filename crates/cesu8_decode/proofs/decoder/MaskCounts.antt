@@ -128,7 +128,8 @@ module _ (f : Flavor) (bytes : List ℕ) where
   saved_before_zeros n =
       saved_agrees f (bytes ++ replicate n 0) bytes 0 0 (length bytes) (λ k small. with_zeros bytes n (0 + k)) ∙ all_offsets f bytes
 
-  -- The first n offsets of a vector save what they save in the bytes.
+  -- The first n offsets of a vector save what they save in the bytes: the vector also has the five
+  -- bytes after them, to which a character that begins there can extend.
   pub saved_in_chunk : (at n : ℕ) → n + 5 ≤ 64 → saved_between f (chunk at 64 bytes) 0 n ≡ saved_between f bytes at n
   saved_in_chunk at n few =
       saved_agrees f (chunk at 64 bytes) bytes 0 at n

@@ -90,8 +90,8 @@ pub fn write_ill_formed_events<F: Flavor>(
 }
 
 /// Writes the events one after another, and copies the bytes between them. If `ill_formed` is known
-/// to be 0, it is compiled without the code that replaces ill-formed bytes. Each copy stores `WIDTH`
-/// bytes, the length of the longest window.
+/// to be 0, it is compiled without the code that replaces ill-formed bytes. Each copy stores
+/// `WIDTH` bytes, the length of the longest window.
 #[inline(always)]
 pub fn write_in_turn<F: Flavor, const WIDTH: usize>(
     bytes: &[u8],
@@ -125,8 +125,8 @@ pub fn write_in_turn<F: Flavor, const WIDTH: usize>(
     copy_between::<WIDTH>(bytes, at + read, window.len - read, out, end)
 }
 
-/// Copies `count` bytes, at most `WIDTH`, from an offset on, and returns their end. It always stores
-/// `WIDTH` bytes, so that no branch depends on the count.
+/// Copies `count` bytes, at most `WIDTH`, from an offset on, and returns their end. It always
+/// stores `WIDTH` bytes, so that no branch depends on the count.
 #[inline(always)]
 fn copy_between<const WIDTH: usize>(
     bytes: &[u8],

@@ -43,6 +43,6 @@ pub record LengthByBytes (f : Flavor) (text bytes : List ℕ) : Type 0 where
   pub sum : length bytes + sum_by (growth_of f) bytes ≡ length (encoding f (chars text))
   pub bound : length (encoding f (chars text)) ≤ 2 * length bytes
 
--- `LengthByBytes` holds for each string in std.
+-- `LengthByBytes` holds for each string in std. `bytes` is what `as_bytes` returns for it.
 pub length_by_bytes : (f : Flavor) (text bytes : List ℕ) → bytes ≡ text → IsUtf8 text → LengthByBytes f text bytes
 length_by_bytes f text bytes same is_utf8 = grind (arith, IsUtf8Of_chars, length_bounds, length_encoding)

@@ -99,9 +99,9 @@ impl Accepts for Tested {
     }
 }
 
-/// Returns `None` if all bytes are unchanged in UTF-8, and otherwise the unchanged prefix. With
-/// `LENIENT` it also returns `None` for more than 64 bytes of UTF-8 without characters of four
-/// bytes.
+/// Returns `None` if all bytes are unchanged in UTF-8, and otherwise the unchanged prefix.
+/// `LENIENT` says whether the mode `A` is `Lenient`. If it is, the result is also `None` for more
+/// than 64 bytes of UTF-8 without characters of four bytes.
 #[cfg_attr(not(debug_assertions), inline(always))]
 fn front_unless_unchanged<F: Flavor, A: Accepts, const LENIENT: bool>(
     bytes: &[u8],
@@ -130,8 +130,8 @@ fn front_unless_unchanged<F: Flavor, A: Accepts, const LENIENT: bool>(
     if len == bytes.len() { None } else { Some(UnchangedPrefix { len, changed: 0 }) }
 }
 
-/// Returns whether bytes are UTF-8, of which the unchanged prefix `front` is known to be. If they
-/// are, the next character is one that the encoding lacks: 00, or one of four bytes.
+/// Returns whether bytes are UTF-8. Their unchanged prefix, `front`, is known to be. If all are,
+/// the next character is one that the encoding lacks: 00, or one of four bytes.
 #[cfg_attr(not(debug_assertions), inline(always))]
 fn is_utf8_after(front: UnchangedPrefix, bytes: &[u8]) -> bool {
     let rest = bytes.part(front.len..);
@@ -149,8 +149,8 @@ fn strict<F: Flavor, A: Accepts, const LENIENT: bool>(
     }
 }
 
-/// Decodes strictly what is not unchanged. It is one function for both modes, and not inlined, so that
-/// unchanged input has few registers to save.
+/// Decodes strictly what is not unchanged. It is one function for both modes, and not inlined, so
+/// that unchanged input has few registers to save.
 #[cfg_attr(not(debug_assertions), inline(always))]
 fn strict_other<F: Flavor>(
     bytes: &[u8],
@@ -240,7 +240,8 @@ fn too_short(fault: TooShort) -> SliceError {
     SliceError::TooShort { needed: fault.needed() }
 }
 
-/// Decodes bytes that are not short ASCII, and writes the text to a slice.
+/// Decodes bytes that are not short ASCII, and writes the text to a slice. The lenient calls to a
+/// slice are not here: `short.rs` makes them of the strict and the lossy one.
 #[cfg_attr(not(debug_assertions), inline(always))]
 fn to_slice<F: Flavor, S: Reading>(bytes: &[u8], buf: &mut [u8]) -> SliceResult {
     match decode_to_slice::<F, Tested, S>(bytes, buf) {

@@ -1,4 +1,5 @@
--- Each offset after `end`, up to `at`, is crossed. The offset goes down, so the loop ends.
+-- A character can cross each offset after `end`, up to `at`. The offset goes down, so the loop
+-- ends.
 use Rattle.std.proofs.Common.{◌≡◌, ℕ, ◌<◌, ◌≤◌, true}
 use Rattle.cesu8_decode.specs.Following.{after_fillers, crosses_at}
 use Rattle.cesu8_decode.proofs.prefix.last_uncrossed.Given as goal

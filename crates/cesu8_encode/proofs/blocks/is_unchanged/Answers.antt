@@ -1,5 +1,6 @@
--- `any_in_ends` searches the block's 32 bytes and the two before them. If none of these 34 bytes
--- changes, the block's encoding is the block.
+-- What is written for a byte depends on the two bytes before it, so `any_in_ends` searches the
+-- block's 32 bytes and the two before them. If none of these 34 bytes is a changed byte, the
+-- block's encoding is the block.
 use Rattle.std.proofs.Common.{◌≡◌, ◌+◌, ◌-◌, ◌||◌, arith, subst}
 use Rattle.std.proofs.lemmas.Bool.{iff_false, not-true}
 use lib.Lanes.{chunk}

@@ -1,5 +1,6 @@
 -- The lengths 1 to 6 are tried in this order. The first at which the bytes are a text is that of
--- the first character. If there is none, no character begins the input.
+-- the first character. If there is none, or if the longest valid prefix of the first six bytes is
+-- empty, no character begins the input.
 use Rattle.std.proofs.Common.{◌+◌, ◌<◌, arith, subst, sym, length, take, drop}
 use Rattle.std.proofs.lemmas.Grind.{common_steps}
 use Rattle.cesu8_stream.specs.Written.{BeginsNone}

@@ -1,4 +1,4 @@
--- The lower half of a number is below 16, so it is a valid index of the shuffle.
+-- The lower half of each of the row's numbers is below 16, as the shuffle requires.
 use Rattle.cesu8_bytes.proofs.vectors.Packing.{low_ok, low_picked}
 use Rattle.cesu8_bytes.proofs.writing.packing.picked.Goals as goal
 

@@ -1,4 +1,4 @@
--- If a lane of one of the four vectors is 00, so is that lane of their minimum.
+-- For the byte 00: if a lane of one of the four vectors is 00, so is that lane of their minimum.
 use Rattle.std.proofs.Common.{arith}
 use Rattle.cesu8_bytes.proofs.lists.Lanes.{null_in_least}
 use Rattle.cesu8_bytes.proofs.lanes.groups.EqualInGroups.may_have.Goals as goal
