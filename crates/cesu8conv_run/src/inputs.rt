@@ -132,6 +132,7 @@ impl<'a> Inputs<'a> {
 
 impl Read for Inputs<'_> {
     fn read(&mut self, buf: &mut [u8]) -> io::Result<usize> {
+        // Rattle requires that each loop ends. This one returns if no file is left.
         for _ in 0..usize::MAX {
             let Some(source) = &mut self.source else {
                 if self.open_next()? {

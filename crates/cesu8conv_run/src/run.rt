@@ -179,6 +179,7 @@ fn list_damage(
             let _ = listing.finish();
             match fault {
                 Fault::Read(error) => say(rt, input.name(), &error),
+                // No other fault occurs: `Nowhere` accepts all bytes, and `Lossy` replaces damage.
                 _ => IO,
             }
         }
