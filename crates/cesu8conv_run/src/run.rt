@@ -13,8 +13,8 @@ use crate::watch::Tally;
 use std::fs;
 use std::io::IsTerminal;
 
-/// The sizes of the two buffers: of what is read, and of what is written. `tests/cesu8conv.py`
-/// names the first one too.
+/// The sizes of the two buffers: of what is read, and of what is written. The encoding of a full
+/// window always fits: it is at most twice as long. `tests/cesu8conv.py` names the first too.
 const WINDOW: usize = 65536;
 
 const ROOM: usize = 131072;
