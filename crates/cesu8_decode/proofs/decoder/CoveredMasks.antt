@@ -184,7 +184,8 @@ module _ (f : Flavor) (bytes : List ℕ) (at n : ℕ) where
   three_begins : (i : ℕ) → threes_by i ≡ true → begins_by i ≡ true
   three_begins i set = or_right (first (is_two_at bytes) i || first (is_null_at f bytes) i) (threes_by i) set
 
-  -- Each offset that a character of two bytes or more covers is marked.
+  -- Each offset that a character of two bytes or more covers is marked: offset i is s bytes after
+  -- the start j of the character.
   pub to_covered : (j s i : ℕ) → j < n → s < w j → 2 ≤ w j → i ≡ j + s → i < 64 → covered_by i ≡ true
   to_covered j zero i inside reach wide there small =
       let same : j ≡ i = omega (arith, there) in ap covered_by (sym same) ∙ from_begin j (to_begins j inside wide)

@@ -45,7 +45,7 @@ six_bits_are bytes next long long_next =
 abbrev pub high_starts : ℕ → List ℕ → List ℕ
 high_starts n lead = zip2 bit_or (replicate n 0x80) (zip2 bit_and lead (replicate n 0x1F))
 
--- The vector of the last bytes that are written.
+-- The vector of the last bytes that are written. `sel_l` chooses by a lane's highest bit (`top 7`).
 abbrev pub second_vector : ℕ → List ℕ → List ℕ → List ℕ → List ℕ → List ℕ → List ℕ → List ℕ
 second_vector n lead before two_before null bytes six =
     sel_l (map (top 7) (zip2 equal (zip2 bit_or lead before) (replicate n 0)))
