@@ -1,5 +1,6 @@
 //! The calls of the Rust crate `simd_cesu8`, with the names of `measured.h`, for a shared object with
-//! which bench compares this library. README.md has the lines that build it.
+//! which bench compares this library. README.md beside this file has the lines that build it, with
+//! version 1.2.0 of the crate.
 
 use simd_cesu8::mutf8;
 use std::borrow::Cow;
@@ -72,6 +73,7 @@ exports! {
     measured_mutf8_decode_lossy: |bytes| Some(bytes_of(mutf8::decode_lossy(bytes)));
     measured_decode_lossy_strict: |bytes| Some(bytes_of(simd_cesu8::decode_lossy_strict(bytes)));
     measured_mutf8_decode_lossy_strict: |bytes| Some(bytes_of(mutf8::decode_lossy_strict(bytes)));
+    // Whoever calls these two knows that the input is UTF-8.
     measured_encode_text: |bytes| Some(simd_cesu8::encode(unsafe { str::from_utf8_unchecked(bytes) }));
     measured_mutf8_encode_text: |bytes| Some(mutf8::encode(unsafe { str::from_utf8_unchecked(bytes) }));
 }

@@ -200,6 +200,7 @@ try_devices() {
     gives /dev/full 4 '' "cesu8conv: standard output: $message"
     conv 'a' decode cesu8 -o /dev/full
     gives '-o /dev/full' 4 '' "cesu8conv: /dev/full: $message"
+    # This writes the input of the next run.
     conv '\xFF' check cesu8
     "$program" check cesu8 <"$scratch/input" >/dev/full 2>"$scratch/error"
     status=$?

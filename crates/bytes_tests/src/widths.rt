@@ -19,7 +19,8 @@ static CASES: [(usize, bool); 6] = [
     (127, true),
 ];
 
-/// Whether each of two searches calls the fallback for so many bytes.
+/// Whether each of two searches calls the fallback for so many bytes. No byte is in a class, so a
+/// search returns true only if it calls the fallback.
 fn asks(len: usize) -> (bool, bool) {
     let bytes = [0x61; 127];
     let bytes = bytes.get(..len).unwrap_or(&[]);

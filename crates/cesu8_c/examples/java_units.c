@@ -21,7 +21,7 @@ static bool begins_with_surrogate(const uint8_t *bytes, size_t length)
 }
 
 // Returns the code unit at offset `at` of bytes that are known to be whole characters or surrogates,
-// and moves `at` past it. Each has one to three bytes, and the first byte determines how many.
+// and moves `at` past it. A code unit has one to three bytes; the first byte determines how many.
 static uint16_t next_unit(const uint8_t *bytes, size_t *at)
 {
     const uint8_t *unit = bytes + *at;

@@ -45,6 +45,7 @@ pub record ConvertsPiece (from to : List ℕ → List ℕ) (widest malformed : �
 -- The contract of a call that replaces ill-formed bytes. `from` is the encoding, and `reading` its
 -- lossy reading.
 pub record DecodesPiece (from reading : List ℕ → List ℕ) (is_last : Bool) (bytes : List ℕ) (progress : Progress) (old new : List ℕ) : Type 0 where
+  -- What was written is how the lossy reading of the input begins, whatever may follow it.
   pub text : ReadsOn reading is_last bytes progress.read progress.written old new
   pub within : progress.read ≤ length bytes
   -- The call returns each status if and only if its condition holds of the remaining bytes.

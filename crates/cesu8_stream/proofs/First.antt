@@ -26,7 +26,7 @@ first_length write bytes c b =
     ap length b.bytes_are ∙ length-append (write (c ∷ [])) b.rest in
     omega (arith, e)
 
--- It also begins the first n bytes, if it has no more than n bytes,
+-- A character that begins bytes also begins the first n of them, if it has at most n bytes.
 pub begins_prefix : (write : List ℕ → List ℕ) (bytes : List ℕ) (n c : ℕ) → Begins write bytes c →
     length (write (c ∷ [])) ≤ n → Begins write (take n bytes) c
 begins_prefix write bytes n c b enough =
@@ -39,7 +39,7 @@ begins_prefix write bytes n c b enough =
           ∙ take-append-add (write (c ∷ [])) b.rest (n - len);
     }
 
--- and if more bytes follow.
+-- A character that begins bytes also begins them if more bytes follow.
 pub begins_longer : (write : List ℕ → List ℕ) (bytes more : List ℕ) (c : ℕ) → Begins write bytes c →
     Begins write (bytes ++ more) c
 begins_longer write bytes more c b = record {
@@ -78,8 +78,8 @@ text_begins write bytes (c ∷ text) append empty some written = (
   },
 )
 
--- The shortest nonempty front of bytes that is a text is the first character alone. So if that
--- text, written in the other way, does not fit in the room, neither does the first character.
+-- The shortest nonempty prefix that is a text is the first character alone. So if that text,
+-- written in the other way, does not fit in the room, neither does the first character.
 pub shortest_is_first : (from to : List ℕ → List ℕ) (bytes : List ℕ) (n c room : ℕ) → Appends from → Sizes from →
     from [] ≡ [] → 0 < n →
     ((bs : List ℕ) (d e : ℕ) → Begins from bs d → Begins from bs e → d ≡ e) →
@@ -108,8 +108,8 @@ shortest_is_first from to bytes n c room append sizes empty some one least text 
         let front = text_begins from (take n bytes) text append empty (grind (arith, common_steps)) written in
         by_first longer front.0 front.1
 
--- If no character begins a front of fewer than len bytes, nor that of len bytes, none begins a
--- front of up to len bytes. `whole` is the length of the valid prefix of the first len bytes: 0.
+-- If no character begins a prefix of fewer than len bytes, nor that of len bytes, none begins a
+-- prefix of up to len bytes. `whole` is the length of the valid prefix of the first len bytes: 0.
 pub none_up_to : (write : List ℕ → List ℕ) (bytes : List ℕ) (len whole : ℕ) →
     ((m : ℕ) → 0 < m → m < len → BeginsNone write (take m bytes)) → whole ≤ 0 → len ≤ length bytes →
     (whole < length (take len bytes) → BeginsNone write (drop whole (take len bytes))) → (n : ℕ) → 0 < n → n < len + 1 →
@@ -125,7 +125,7 @@ none_up_to write bytes len whole shorter none within stops n some few = by (case
         subst (λ k. BeginsNone write (take k bytes)) exact
         (subst (λ k. BeginsNone write (drop k (take len bytes))) zero (stops long))
 
--- If no character begins fronts of up to six bytes, none begins the bytes.
+-- If no character begins a prefix of up to six bytes, none begins the bytes.
 pub none_of_six : (write : List ℕ → List ℕ) (bytes : List ℕ) (end : ℕ) → Sizes write → end ≡ min (length bytes) 6 + 1 →
     ((m : ℕ) → 0 < m → m < end → BeginsNone write (take m bytes)) → BeginsNone write bytes
 none_of_six write bytes end sizes is none c b =
@@ -145,7 +145,7 @@ none_of_first write bytes most sizes is none c b =
     let enough : len ≤ most = omega arith in
     none (grind (arith, common_steps)) c (begins_prefix write bytes most c b enough)
 
--- The first character is no longer than the shortest text at the front of the bytes.
+-- The first character is no longer than a nonempty prefix that is a text.
 pub first_within : (write : List ℕ → List ℕ) (bytes text : List ℕ) (n c : ℕ) → Appends write → write [] ≡ [] →
     ((bs : List ℕ) (d e : ℕ) → Begins write bs d → Begins write bs e → d ≡ e) → 0 < n → n ≤ length bytes →
     IsWritten write (take n bytes) text → Begins write bytes c → length (write (c ∷ [])) ≤ n

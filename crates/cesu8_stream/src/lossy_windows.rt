@@ -48,7 +48,7 @@ fn decode_rest_by_windows<C: Decoding>(bytes: &[u8], buf: &mut [u8]) -> Moved
 }
 
 /// Decodes as many bytes as surely fit, but for those at the end that may be a part of a character.
-/// Five bytes or more are left after these, since `is_cut` tests them too.
+/// It leaves at least five bytes, since `is_cut` also tests the five bytes after `end`.
 fn decode_window<C: Decoding>(bytes: &[u8], buf: &mut [u8]) -> Moved
     ensures reads { ReadsOn C.reading false bytes.now result.read result.written buf.old buf.new }
     ensures within { result.read ≤ length bytes.now }

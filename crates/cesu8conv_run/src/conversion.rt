@@ -1,6 +1,6 @@
 //! What the program can make of its input.
 
-/// A command, but for `check`, with its encoding.
+/// A command other than `check`, with its encoding.
 #[derive(Clone, Copy)]
 pub enum Conversion {
     /// UTF-8 to the encoding.

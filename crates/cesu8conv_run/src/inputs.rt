@@ -38,7 +38,7 @@ pub struct Inputs<'a> {
     rt: &'a HostRuntime,
     names: &'a [&'a str],
     source: Option<Source>,
-    /// Where the files begin that were opened so far.
+    /// Where the files that were opened so far begin.
     starts: Vec<Start>,
     /// How many bytes were read, and how many line ends are in them.
     offset: u64,
@@ -90,7 +90,7 @@ impl<'a> Inputs<'a> {
         (name_at(self.names, found), start)
     }
 
-    /// Takes the line of progress away.
+    /// Removes the line that shows progress.
     pub fn end_progress(&mut self) {
         if let Some(progress) = &mut self.progress {
             progress.end();
@@ -132,6 +132,7 @@ impl<'a> Inputs<'a> {
 
 impl Read for Inputs<'_> {
     fn read(&mut self, buf: &mut [u8]) -> io::Result<usize> {
+        // Rattle requires that each loop ends. This one returns if no file is left.
         for _ in 0..usize::MAX {
             let Some(source) = &mut self.source else {
                 if self.open_next()? {

@@ -13,8 +13,8 @@ use crate::watch::Tally;
 use std::fs;
 use std::io::IsTerminal;
 
-/// The sizes of the two buffers: of what is read, and of what is written. `tests/cesu8conv.py`
-/// names the first one too.
+/// The sizes of the two buffers: of what is read, and of what is written. The encoding of a full
+/// window always fits: it is at most twice as long. `tests/cesu8conv.py` names the first too.
 const WINDOW: usize = 65536;
 
 const ROOM: usize = 131072;
@@ -179,6 +179,7 @@ fn list_damage(
             let _ = listing.finish();
             match fault {
                 Fault::Read(error) => say(rt, input.name(), &error),
+                // No other fault occurs: `Nowhere` accepts all bytes, and `Lossy` replaces damage.
                 _ => IO,
             }
         }

@@ -94,6 +94,7 @@ pub fn push_words(
     out: &mut String,
 ) -> Result<(), AllocError> {
     let end = out.as_str().len().saturating_add(bytes);
+    // Each round appends at least one byte, so `bytes` rounds are enough.
     for _ in 0..bytes {
         if out.as_str().len() >= end {
             break;

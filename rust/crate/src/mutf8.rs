@@ -4,6 +4,7 @@ use alloc::borrow::Cow;
 use alloc::vec::Vec;
 
 use crate::level;
+// In calls of `short`, `true` is for MUTF-8: U+0000 is not the byte 00.
 use crate::{DecodingError, SliceError, short};
 
 /// Returns whether the MUTF-8 of a string differs from its UTF-8: whether a character is U+0000, or

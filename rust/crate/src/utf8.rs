@@ -1,13 +1,13 @@
 //! The test for UTF-8: that of the crate `simdutf8` if its feature is on, and otherwise `core`'s.
 
-/// Returns bytes that are UTF-8 as a text.
+/// Returns the bytes as a text if they are UTF-8.
 #[cfg(feature = "simdutf8")]
 #[inline]
 pub(crate) fn from_utf8(bytes: &[u8]) -> Option<&str> {
     simdutf8::basic::from_utf8(bytes).ok()
 }
 
-/// Returns bytes that are UTF-8 as a text.
+/// Returns the bytes as a text if they are UTF-8.
 #[cfg(not(feature = "simdutf8"))]
 #[inline]
 pub(crate) fn from_utf8(bytes: &[u8]) -> Option<&str> {
@@ -21,7 +21,8 @@ pub(crate) fn is_utf8(bytes: &[u8]) -> bool {
     from_utf8(bytes).is_some()
 }
 
-/// Splits bytes after the whole characters of UTF-8 with which they begin.
+/// Splits the bytes after their longest prefix that is UTF-8. It uses `core`, since the errors of
+/// `simdutf8::basic` do not say how long that prefix is.
 pub(crate) fn split_valid(bytes: &[u8]) -> (&str, &[u8]) {
     match core::str::from_utf8(bytes) {
         Ok(text) => (text, &[]),

@@ -1,4 +1,6 @@
--- What the masks of at most 64 bytes say about their prefixes.
+-- What the masks of at most 64 bytes say about their prefixes, for `prefix_by_window` and
+-- `valid_up_to_other`. What `is_ill_formed_at` says of the window at offset i is about byte i of
+-- the bytes, since `window_of` puts five zeros before them.
 use Rattle.std.proofs.Common.{◌≡◌, ℕ, ◌+◌, ◌<◌, ◌≤◌, ⊎_elim, Bool, true, false, ltb, min, bit_or, zero-add, ◌&&◌, ◌||◌, List, sym, ap, ◌∙◌, subst, arith, length}
 use Rattle.std.proofs.lemmas.Bool.{cases_lt, or_parts, or_cases}
 use Rattle.std.proofs.lemmas.Bool.Decides.{nat_tests}

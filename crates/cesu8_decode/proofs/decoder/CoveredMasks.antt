@@ -22,6 +22,8 @@ pub record Forms (w : ℕ) (one null two three pair : Bool) : Type 0 where
   is_three : three ≡ true → w ≡ 3
   pub is_pair : pair ≡ true → w ≡ 6
 
+-- The tests in the order in which `first_width_by` makes them. One that holds gives the width: no
+-- earlier one that gives another width holds too.
 chain : (one null two three six : Bool) →
     (null ≡ true → one ≡ false) → (two ≡ true → (one ≡ false)) → (three ≡ true → (one ≡ false) × (null ≡ false) × (two ≡ false)) →
     let w : ℕ = cond one 1 (cond null 2 (cond two 2 (cond three 3 (cond six 6 0)))) in
@@ -40,6 +42,7 @@ forms f a b d e g h =
 -- ---- covered offsets
 
 module _ (f : Flavor) (bytes : List ℕ) (at n : ℕ) where
+  -- The width of the character that begins at offset i. Offsets count from `at` on.
   abbrev w : ℕ → ℕ
   w i = width_at f bytes (at + i)
 
@@ -181,7 +184,8 @@ module _ (f : Flavor) (bytes : List ℕ) (at n : ℕ) where
   three_begins : (i : ℕ) → threes_by i ≡ true → begins_by i ≡ true
   three_begins i set = or_right (first (is_two_at bytes) i || first (is_null_at f bytes) i) (threes_by i) set
 
-  -- Each offset that a character of two bytes or more covers is marked.
+  -- Each offset that a character of two bytes or more covers is marked: offset i is s bytes after
+  -- the start j of the character.
   pub to_covered : (j s i : ℕ) → j < n → s < w j → 2 ≤ w j → i ≡ j + s → i < 64 → covered_by i ≡ true
   to_covered j zero i inside reach wide there small =
       let same : j ≡ i = omega (arith, there) in ap covered_by (sym same) ∙ from_begin j (to_begins j inside wide)

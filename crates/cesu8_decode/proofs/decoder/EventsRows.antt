@@ -1,6 +1,7 @@
 -- The shuffles that put replacement characters in place of ill-formed bytes, four bytes at a time:
 -- the rows of the table `ROWS` in `pass/events/replaced.rt`. Bit i of a row's number is set if byte
--- i is ill-formed. The last entry of a row is how many bytes it packs.
+-- i is ill-formed. The last entry of a row is how many bytes it packs. A row drops no byte, so the
+-- first number of `kept_of` is 0. The last two say that it packs four bytes, from lane 0 on.
 use Rattle.std.proofs.Common.{◌≡◌, ℕ, ◌+◌, ◌-◌, ◌/◌, ◌%◌, ◌^◌, ◌<◌, ◌≤◌, Bool, true, false, eqb, List, [], ◌∷◌, ◌++◌, length, take, drop, get_or, replicate, refl, sym, ap, ◌∙◌, arith, length-drop, bit_and}
 use Rattle.std.proofs.lemmas.Bool.{agree_below_at, and_parts, eqb-true}
 use Rattle.std.proofs.lemmas.List.{length-take, length-take-le, take-take, drop-take}

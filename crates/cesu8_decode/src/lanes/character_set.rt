@@ -1,8 +1,9 @@
 //! The two sets of characters that a prefix can consist of, as types: all encoded characters, and
 //! those that are unchanged in UTF-8.
 //!
-//! Tables of error bits say which bytes can follow which. The method and most names of the bits are
-//! those of Keiser and Lemire, "Validating UTF-8 in less than one instruction per byte".
+//! Tables of error bits say which bytes can follow which. For them 00 is like other ASCII; in
+//! MUTF-8 `pair_classes` in `following.rt` makes it an error. The method and most names of the bits
+//! are those of Keiser and Lemire, "Validating UTF-8 in less than one instruction per byte".
 
 ghost use Rattle.std.specs.Prelude.{◌≡◌, ◌+◌, ◌-◌, ◌≤◌, length, take, drop};
 ghost use Rattle.cesu8_decode.specs.Following.{CharacterSet as AnySet, Encoded as AllEncoded, Unchanged as AllUnchanged, IsBlockAt, rule};

@@ -45,14 +45,16 @@ six_bits_are bytes next long long_next =
 abbrev pub high_starts : ℕ → List ℕ → List ℕ
 high_starts n lead = zip2 bit_or (replicate n 0x80) (zip2 bit_and lead (replicate n 0x1F))
 
--- The vector of the last bytes that are written.
+-- The vector of the last bytes that are written. `sel_l` chooses by a lane's highest bit (`top 7`).
 abbrev pub second_vector : ℕ → List ℕ → List ℕ → List ℕ → List ℕ → List ℕ → List ℕ → List ℕ
 second_vector n lead before two_before null bytes six =
     sel_l (map (top 7) (zip2 equal (zip2 bit_or lead before) (replicate n 0)))
     (zip2 bit_or (zip2 bit_or bytes (zip2 bit_and two_before (replicate n 0x30))) (zip2 bit_and null (replicate n 0x80)))
     (zip2 (λ a b. a + b) six (high_starts n lead))
 
--- The last byte that is written, from four tests, the byte and the six bits.
+-- The last byte that is written, from four tests, the byte and the six bits: `changed` of
+-- specs/EncodedOffsets.antt. The six bits of a lead byte are its plane, at least 1, so with 9F they
+-- are at least A0. With the bits of 30 a continuation byte becomes B0 to BF.
 abbrev second : Bool → Bool → Bool → Bool → ℕ → ℕ → ℕ
 second lead before two_before null b six =
     cond (lead || before) (six + cond lead 0x9F 0x80) (bit_or (bit_or b (cond two_before 0x30 0)) (cond null 0x80 0))

@@ -1,5 +1,6 @@
 -- The input is a count and at least as many bytes. So if the counted bytes are the MUTF-8 of a
--- text, the input begins with the form of that text, and with no other form.
+-- text, the input begins with the form of that text, and with no other form. In both answers the
+-- calls of `grind` prove three other clauses of the function: `counted`, `rest` and `whole`.
 use Rattle.std.proofs.Common.{arith}
 use Rattle.std.proofs.lemmas.Grind.{common_steps}
 use Rattle.java_text.proofs.Forms.{form_of_parts, only_form_of_parts}

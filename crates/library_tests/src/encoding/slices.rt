@@ -67,7 +67,8 @@ fn encodes_characters_among_ascii(rt: HostRuntime) {
     }
 }
 
-/// Asserts what the call leaves for 819 patterns, in buffers of these lengths.
+/// Asserts what the call leaves for 819 patterns, which have 16,380 bytes of UTF-8, in buffers of
+/// these lengths.
 fn assert_pattern(rt: &impl Abort, alloc: Global, flavor: Flavor, rooms: Range<usize>) {
     let utf8 = repeated(alloc, PATTERN, 819).expect(rt, "the pattern");
     let bytes = repeated(alloc, encoded_pattern(flavor), 819).expect(rt, "its encoding");

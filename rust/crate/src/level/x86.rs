@@ -1,6 +1,7 @@
 //! The levels of x86-64. `level.rs` says what each macro is for. The first four are those of v3,
 //! and the next four, with the same names, those of v2. Then come the definitions of `by_level!`,
-//! one for each kind of build.
+//! one for each kind of build. A function that is always inlined gets the features of its caller,
+//! since Rust does not allow `inline(always)` beside `target_feature`.
 
 macro_rules! at_level {
     (loop { $($function:tt)* } $call:expr) => {

@@ -1,6 +1,6 @@
 -- `encode` matches on the flavor and calls the encoder for it. What that call promises for a fixed
--- flavor holds for `flavor_of` the argument. A call that fails for want of memory had to allocate,
--- so the encoding differs from the input.
+-- flavor holds for `flavor_of` the argument. If the command promises to allocate nothing, the text
+-- needs no encoding (`needs_none`). Then the call borrows it, and cannot fail for want of memory.
 use Rattle.std.proofs.Common.{ap}
 use Rattle.std.specs.Str.{chars}
 use Rattle.simd_cesu8.specs.Encoding.{Cesu8, Mutf8}

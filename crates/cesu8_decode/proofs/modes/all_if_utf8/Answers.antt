@@ -1,4 +1,5 @@
--- The prefix is UTF-8, so all bytes are UTF-8 exactly if those after it are.
+-- The prefix is UTF-8, so all bytes are UTF-8 exactly if those after it are. At most 64 bytes are
+-- tested from the start, and more bytes from the end of the prefix.
 use Rattle.std.proofs.Common.{◌≡◌, ◌≤◌, ◌⊎◌, ◌↔◌, inl, inr, refl, ℕ, List, drop, length, subst, sym, take}
 use Rattle.std.specs.Str.{IsUtf8}
 use Rattle.std.proofs.lemmas.Bool.{both_ways}

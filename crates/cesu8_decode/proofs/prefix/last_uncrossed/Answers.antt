@@ -1,5 +1,6 @@
--- The prefix ends at the last offset up to `at` that no character crosses (`prefix_at`). No
--- character crosses offset 0.
+-- The prefix ends at the last offset up to `at` that no character crosses (`prefix_at`). The loop
+-- goes back from `at` to it, and ends at 0, which no character crosses. Offset k in `crosses_at` is
+-- an offset of the bytes: the four zeros of `after_fillers` stand for the bytes before them.
 use Rattle.std.proofs.Common.{◌≡◌, ◌∙◌, ℕ, refl, sym, ap, List, ⊎_elim, false, arith}
 use Rattle.std.proofs.lemmas.Bool.{cases_eq}
 use Rattle.cesu8_decode.specs.Following.{CharacterSet, Encoded, Unchanged, after_fillers, crosses_at}

@@ -1,4 +1,5 @@
--- A byte that is no continuation byte begins a character, and in UTF-8 no four continuation bytes
+-- The loop goes back from `at` over at most three continuation bytes. A byte that is none begins a
+-- character. After three steps the next byte back does, since in UTF-8 no four continuation bytes
 -- follow each other (`start_is_boundary`).
 use Rattle.std.proofs.Common.{◌-◌, ℕ, arith, below_more, get_or, inl, inr, refl}
 use Rattle.std.proofs.lemmas.Bool.{both_ways}

@@ -1,5 +1,6 @@
 -- The first block, the blocks in the middle and the last block are the whole string, so what is
--- written for them is its encoding.
+-- written for them is its encoding (`recoded_chars`). The first three goals have the same proof:
+-- each call requires room for the whole encoding.
 use Rattle.std.proofs.Common.{◌∙◌, ap, arith, length}
 use Rattle.cesu8_encode.proofs.encoder.RecodedText.{recoded_chars}
 use Rattle.cesu8_encode.proofs.blockwise.write_blocks.Goals as goal

@@ -1,4 +1,5 @@
--- If the string needs no encoding, its bytes are its encoding.
+-- If the string needs no encoding, its bytes are its encoding. There are two goals, since
+-- `may_need_encoding` tests at most 32 bytes, and `needs_encoded` tests more.
 use Rattle.std.proofs.Common.{sym, ◌∙◌, subst}
 use Rattle.std.proofs.lemmas.Bool.{both_ways, iff_false}
 use Rattle.cesu8_bytes.specs.Puts.{PutsAnswer}

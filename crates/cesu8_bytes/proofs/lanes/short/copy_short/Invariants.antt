@@ -1,4 +1,5 @@
--- The bytes up to `at` are copied, and the buffer after the length of all bytes is unchanged.
+-- The bytes up to `at` are copied, and what the buffer has after the length of the bytes is
+-- unchanged.
 use Rattle.std.proofs.Common.{◌-◌, ◌≡◌, ◌≤◌, length, take, drop}
 use Rattle.cesu8_bytes.proofs.lanes.short.copy_short.Given as goal
 

@@ -1,4 +1,4 @@
--- As many zeros are appended as rounds were run, and the capacity is unchanged.
+-- As many zeros are appended to `taken` as rounds were run, and its capacity is unchanged.
 use Rattle.std.proofs.Common.{◌≡◌, ◌+◌, ◌++◌, replicate, vec_len, vec_capacity}
 use Rattle.cesu8_bytes.proofs.writing.copies.append_zeros.Given as goal
 

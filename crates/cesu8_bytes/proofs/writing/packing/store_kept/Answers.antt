@@ -1,4 +1,5 @@
 -- Four rows of eight bytes are the 32 bytes, so what the four stores keep is what is kept of them.
+-- Each half of the 32 bytes is two rows, and `second_of` moves the second to the first lanes.
 use Rattle.std.proofs.Common.{ℕ, ◌+◌, ◌≤◌, ◌++◌, ap, ◌∙◌, subst, arith}
 use lib.Lanes.{chunk, pick_l}
 use Rattle.std.specs.List.{range_with_len}

@@ -1,5 +1,5 @@
--- A byte that leads no character that needs conversion cannot come right after the unchanged prefix
--- of bytes that have a strict reading.
+-- If bytes have a strict reading, and their unchanged prefix is not all of them, the byte after it
+-- leads a character that needs conversion. So if another byte is there, the error is right.
 use Rattle.std.proofs.Common.{refl, ◌∙◌, ap, add-zero, get_or, drop}
 use Rattle.std.proofs.lemmas.Bool.{both_ways}
 use Rattle.std.proofs.lemmas.List.{get_or-drop}

@@ -1,5 +1,6 @@
 -- The class of a byte pair is what its three table entries have in common. In MUTF-8 the bit for C0
--- is cleared if the second byte is 80 and the set has C0 80. All bits are set if that byte is 00.
+-- is cleared if the second byte is 80 and the set has C0 80. If the second byte is 00, which no
+-- MUTF-8 has, all bits are set, and no byte is required to have such a class.
 use Rattle.std.proofs.Common.{◌≡◌}
 use Rattle.std.proofs.lemmas.Bool.{iff_false}
 use Rattle.cesu8_text.specs.Encoding.{Cesu8, Mutf8}

@@ -1,4 +1,5 @@
--- A new entry has the empty name, whose encoding has no bytes.
+-- A new entry has the empty name, whose encoding has no bytes. By `none` these have no strict
+-- reading, but the empty text is one.
 use Rattle.std.proofs.Common.{[], refl}
 use Rattle.std.specs.Str.{chars}
 use Rattle.simd_cesu8.specs.Encoding.{encoding}

@@ -1,5 +1,6 @@
--- Each of the four vectors has four of the bytes and a replacement character in its first lanes.
--- What is stored for them, one after another, is what is written for the sixteen bytes.
+-- Each of the four vectors has four of the bytes and a replacement character in its first lanes:
+-- one shuffle makes two of them, and `second_of` moves the second to the first lanes. What is
+-- stored for them, one after another, is what is written for the sixteen bytes.
 use Rattle.std.proofs.Common.{ℕ, ◌+◌, ◌≤◌, ◌++◌, ap, ◌∙◌, subst, arith}
 use Rattle.std.specs.List.{range_with_len}
 use lib.Lanes.{chunk, pick_l}
