@@ -30,7 +30,8 @@ use Rattle.cesu8_decode.proofs.decoder.WindowEnds.{none_in_window, found_in_wind
 
 -- ---- lengths
 
--- For a byte that is not ill-formed, at most one byte is written.
+-- For a byte that is not ill-formed, at most one byte is written, and none if it is dropped
+-- (`goes`).
 pub one_or_none : (goes : Bool) (b : ℕ) → length (written_for goes false b) ≤ 1
 one_or_none true b = omega arith
 one_or_none false b = omega arith
