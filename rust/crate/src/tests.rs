@@ -374,7 +374,8 @@ macro_rules! test_encoding {
     }};
 }
 
-/// The functions of an encoding at a level, and the calls that are made of them.
+/// The functions of an encoding at a level, and the calls that are made of them. Those of `plain`
+/// are safe functions, hence `allow(unused_unsafe)`.
 macro_rules! level_calls {
     ($module:ident, $($calls:ident)::*) => {
         #[allow(unused_unsafe)]
