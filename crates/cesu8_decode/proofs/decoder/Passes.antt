@@ -1,4 +1,5 @@
--- The pass from window to window, for the loops of `pass::windows` and for one window alone.
+-- The pass from window to window, for the loops of `pass::windows` and for one window alone. What
+-- the definitions say of `window_of bytes` at an offset is about the byte of `bytes` there.
 use Rattle.std.proofs.Common.{◌≡◌, ℕ, ◌+◌, ◌≤◌, Bool, true, false, true≢false, List, [], ◌++◌, refl, sym, ap, ◌∙◌, subst, arith, length, take, drop, append-nil, append_assoc, length-append, length-drop, take-append-drop, Result, Ok, Err, OkIff}
 use Rattle.std.proofs.lemmas.List.{length-take-le}
 use Rattle.cesu8_text.specs.Encoding.{Flavor, encoding}
