@@ -229,7 +229,8 @@ function close_context() {
     depth--
 }
 
-# A ghost member by which an implementation says what it promises. `laws` and `class` are proofs.
+# A ghost member by which an implementation says what it promises. `laws` is a proof, and `class` a
+# set of bytes, so they are no promises.
 function ghost_member(    name, taken) {
     name = text
     sub(/^ghost /, "", name)

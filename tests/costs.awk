@@ -12,6 +12,7 @@
     exit is_wrong = 1
 }
 /^ob=/ { object = $0; sub(/.*[\/=]/, "", object) }
+# The functions that allocate, free or copy, in whatever object they are.
 /^fn=/ { is_request = /^fn=((rattle_(alloc|realloc|dealloc))|malloc|realloc|free|mem[a-z]*)$/ }
 # The line after a call has the cost of the called function, which is counted at its own lines.
 /^calls=/ { getline; next }

@@ -2,7 +2,8 @@
 // tests/exports.sh compiles it as C and as C++, with all warnings of the compilers, and never runs
 // it.
 //
-// With -DWRONG=N it has one of the faults about which a compiler with the header's attributes warns.
+// With -DWRONG=N it has one of the faults about which a compiler with the header's attributes
+// warns. tests/exports.sh lists the numbers for each attribute.
 
 #include "cesu8.h"
 

@@ -5,10 +5,10 @@
 #   on hostile inputs, with debug assertions and overflow checks; the cases of tests/cli_cases.txt;
 #   allocations, types and borrowing; the examples of the documentation;
 # - the same calls beside the library for C of RELEASE, optimized;
-# - a build for x86-64-v3, one that leaves out v3, one without std, and one with the feature simdutf8,
-#   over a crate of that name and API that stands in, since no registry is asked;
-# - rustc 1.85 if RUSTC_1_85 names it, as tests/rust_1_85.sh gets it, and by it and its emulators arm64
-#   and i386;
+# - a build for x86-64-v3, one that leaves out v3, one without std, and one with the feature
+#   simdutf8, with a stand-in for the crate of that name, since no registry is asked;
+# - rustc 1.85, if RUSTC_1_85 names it (tests/rust_1_85.sh unpacks one), and by this compiler the
+#   crate for arm64 and i386, in the emulators beside it;
 # - the levels under the address sanitizer, if rustup has a nightly compiler;
 # - programs as a user writes them, from the .crate files of RELEASE, offline: the dependency in one
 #   line, [patch.crates-io], panic = "abort", fat LTO, a static relocation model;

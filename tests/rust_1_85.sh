@@ -1,5 +1,6 @@
 #!/usr/bin/env bash
-# Unpacks Debian's rustc 1.85 for x86-64 in a folder, without installing it:
+# Unpacks Debian's rustc 1.85 for x86-64 (its package is rustc-web) in a folder, without installing
+# it:
 #   rust_1_85.sh FOLDER
 # With it come the libraries of Rust and C for arm64 and i386, and emulators of both, with which
 # tests/rust.sh tests the crate for these, if ld.lld is there. It prints the name of a script in

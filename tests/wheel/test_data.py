@@ -56,6 +56,7 @@ def by_threads(change: Callable[[], None], call: Callable[[], None], seconds: fl
 class Copies(unittest.TestCase):
     def test_a_string_that_gets_shorter(self) -> None:
         """`read_utf` returns, however the data changes."""
+        # A comparison with the name of the handler, a `Changes`, clears the data.
         program = """if True:
             import cesu8
             for errors in ("ignore", "surrogateescape", "backslashreplace", "strict"):

@@ -1,5 +1,5 @@
-//! `keys.c` in Rust: reads the strings that Java's `DataOutput.writeUTF` wrote to a file, and prints
-//! each with its key for a store: its CESU-8. Keys that are compared byte by byte have the order of
+//! `keys.c` in Rust: reads strings as Java's `DataOutput.writeUTF` writes them, and prints each
+//! with its key for a store: its CESU-8. Keys that are compared byte by byte have the order of
 //! Java's strings. To build it, with the folder of `libcesu8.a` in place of FOLDER:
 //! `rustc --edition 2024 -L native=FOLDER -l static=cesu8 keys.rs`
 

@@ -1,4 +1,5 @@
--- What the loops of the engine (src/engine.rt) convert, step by step.
+-- What the loops of the engine (src/engine.rt) convert, step by step. After some steps, n (or m)
+-- bytes of the input are read, and w bytes of the buffer are written.
 use borrow.Rule.Slice.PartMut.{put_mid}
 use Rattle.std.proofs.Common.{◌≡◌, ℕ, ◌+◌, ◌-◌, ◌<◌, ◌≤◌, ◌⊎◌, List, [], ◌∷◌, ◌++◌, refl, sym, ap, ◌∙◌, inl, inr, arith, length, take, drop}
 use Rattle.std.proofs.lemmas.Grind.{common_steps}

@@ -1,4 +1,7 @@
--- Conversions of parts of the input, one after the other.
+-- Conversions of parts of the input, one after the other. `a` and `p` are consecutive parts, and
+-- `rest` is the input after them that is known. `s` and `t` are the texts of the two parts, and `x`
+-- and `y` what is written for them. `concat` is the law that the encoding of two texts, joined, is
+-- their encodings, joined.
 use Rattle.std.proofs.Common.{◌≡◌, ℕ, Bool, true, false, List, [], ◌∷◌, ◌++◌, refl, sym, ap, ◌∙◌, append_assoc}
 use Rattle.std.proofs.lemmas.List.{append-nil}
 use Rattle.std.proofs.lemmas.List.Concat.{flat_map-append}

@@ -1,4 +1,5 @@
-//! The digest of results.
+//! The digest of results: a number that each workload prints, so that `bench/run` sees whether two
+//! builds of the library return the same.
 
 ghost use Rattle.std.specs.Prelude.{◌+◌, ◌≤◌, length};
 

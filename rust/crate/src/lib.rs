@@ -34,6 +34,7 @@ pub mod java;
 mod level;
 pub mod mutf8;
 mod panics;
+// In some builds, such as one for aarch64 or x86-64-v3, only the tests use this.
 #[cfg_attr(not(test), allow(dead_code))]
 mod plain;
 mod short;

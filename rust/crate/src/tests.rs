@@ -83,7 +83,7 @@ mod standard {
     }
 }
 
-/// A small generator of numbers.
+/// A xorshift generator. Its state must not be 0: it would stay 0.
 struct Random(u64);
 
 impl Random {
@@ -98,6 +98,7 @@ impl Random {
         (self.next() >> 20) % end
     }
 
+    /// A random character with `width` bytes of UTF-8, or U+0000 if `width` is 0.
     fn character(&mut self, width: u64) -> char {
         loop {
             let scalar = match width {
@@ -373,7 +374,8 @@ macro_rules! test_encoding {
     }};
 }
 
-/// The functions of an encoding at a level, and the calls that are made of them.
+/// The functions of an encoding at a level, and the calls that are made of them. Those of `plain`
+/// are safe functions, hence `allow(unused_unsafe)`.
 macro_rules! level_calls {
     ($module:ident, $($calls:ident)::*) => {
         #[allow(unused_unsafe)]

@@ -66,6 +66,7 @@ bytes_of_word p q r s p_byte q_byte r_byte s_byte = grind arith
 
 -- The bits of the UTF-8: some digits move down by ten bits, some up by four, and some down by
 -- sixteen. The digits are w to z. The word is that of the pair after 0x100 was added, hence 0xA1.
+-- The masks clear the bytes a and e, which are ED in a pair, and `more`, which follows it.
 module _ (a w x e y z more : ℕ) (a_byte : a < 0x100) (w_low : w < 0x10) (x_low : x < 0x40)
     (e_byte : e < 0x100) (y_low : y < 0x10) (z_low : z < 0x40) where
   abbrev word : ℕ

@@ -1,4 +1,5 @@
--- Bytes are ASCII if none is 80 (hexadecimal) or more.
+-- What the searches of src/fast_paths.rt find: bytes are ASCII if none is 80 (hexadecimal) or more,
+-- and a string needs encoding if it has a four-byte lead or a changed null.
 use Rattle.std.proofs.lemmas.Bool.Decides.{nat_tests}
 use Rattle.std.proofs.Common.{◌≡◌, ◌∙◌, ℕ, Bool, true, not, IsTrue, ◌↔◌, ◌||◌, ◌<◌, ◌≤◌, List, sym, ap, arith, leb, length, take, get_or}
 use Rattle.std.specs.List.{Any, prefix_len}

@@ -1,4 +1,5 @@
--- The first difference of two lists: how it decides their order, and how vectors find it.
+-- The first difference of two lists: how it decides their order, and how the vectors of
+-- src/order.rt find it.
 use Rattle.std.proofs.Common.{◌≡◌, ◌≢◌, ℕ, Bool, false, not, cond, List, [], ◌∷◌, ◌++◌, map, take, length, get_or, eqb, min, zero, suc, refl, sym, ap, ◌∙◌, ◌+◌, ◌<◌, ◌≤◌, ◌^◌, ◌%◌, ◌-◌, ◌⊎◌, ⊎_elim, arith, w8, Fits}
 use Rattle.std.specs.List.{prefix_len, All}
 use Rattle.std.specs.Ordering.{nat_cmp}

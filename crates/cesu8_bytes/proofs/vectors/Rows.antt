@@ -1,5 +1,5 @@
 -- Eight lanes of a vector as a row: their bits in a mask, how they are shuffled, and how they are
--- stored.
+-- stored. `writing/packing.rt` packs bytes by rows, and so does `store_block` of `cesu8_encode`.
 use Rattle.std.proofs.lemmas.Bool.Decides.{nat_tests}
 use Rattle.std.proofs.lemmas.Grind.{common_steps}
 use Rattle.std.proofs.Common.{◌≡◌, ℕ, zero, suc, ◌+◌, ◌*◌, ◌/◌, ◌%◌, ◌^◌, ◌<◌, ◌≤◌, Bool, cond, List, [], ◌∷◌, ◌++◌, map, length, take, drop, get_or, eqb, sym, ap, ◌∙◌, subst, arith, w8, length-append, bit_and}

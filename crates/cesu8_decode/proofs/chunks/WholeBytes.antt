@@ -1,4 +1,5 @@
--- Bytes that are whole characters of a set.
+-- Bytes that are whole characters of a set: of `Encoded`, which has all encoded characters, or of
+-- `Unchanged`, which has those whose encoding is their UTF-8.
 use Rattle.std.proofs.Common.{◌≡◌, ℕ, ◌⊎◌, List, [], ◌∷◌, ◌++◌, true, refl, sym, ◌∙◌, subst, ⊎_elim, arith, drop}
 use Rattle.std.specs.List.{Any}
 use Rattle.std.proofs.lemmas.Bool.Decides.{nat_tests}

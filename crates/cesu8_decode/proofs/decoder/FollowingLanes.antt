@@ -1,5 +1,6 @@
 -- The class of each pair of bytes and the class that is required, lane by lane, for `pair_classes`
--- and `required_classes` of `lanes/following.rt`.
+-- and `required_classes` of `lanes/following.rt`. The bits of a required class are 80 (hexadecimal,
+-- `TWO_CONTS`) and 20 (`SURROGATE`).
 use Rattle.std.proofs.Common.{◌≡◌, ℕ, ◌+◌, ◌%◌, ◌^◌, ◌<◌, ⊎_elim, Bool, true, false, cond, ◌&&◌, List, map, length, replicate, eqb, leb, ltb, bit_and, bit_or, refl, sym, ap, ◌∙◌, arith, Fits, w8, ◌-◌, add-zero, get_or}
 use Rattle.std.proofs.lemmas.Bool.{agree_below, agree_below_at, and_parts, eqb-true, ne_eqb, cases_eq, cases_Bool}
 use lib.Lanes.{zip2, sel_l, top, Each1}
@@ -20,6 +21,7 @@ use Rattle.cesu8_bytes.proofs.lists.Lanes.{ones}
 abbrev pub by_equal_test : Rule → ℕ → ℕ → ℕ
 by_equal_test t = table_bits t.by_high t.by_low t.by_next
 
+-- `half b` is b with its lower half cleared. The class in CESU-8 does not depend on that half.
 low_half : (s : CharacterSet) (b : ℕ) → leb (first_low s) (half b) ≡ leb (first_low s) b
 low_half Encoded b = (half_tests b 0xB).0
 low_half Unchanged b = (half_tests b 0xA).0
@@ -40,6 +42,7 @@ table_bits_is Unchanged = bits_by_halves UNCHANGED.by_high UNCHANGED.by_low UNCH
 abbrev kept_of : CharacterSet → ℕ → ℕ
 kept_of s b = cond (has_changed s && eqb b 0x80) 0xEF 0xFF
 
+-- The class in MUTF-8, from the class n in CESU-8 and the second byte b.
 abbrev in_mutf8 : CharacterSet → ℕ → ℕ → ℕ
 in_mutf8 s n b = bit_or (bit_and n (kept_of s b)) (mask (eqb b 0))
 
@@ -114,6 +117,8 @@ left_lanes n less bytes =
 abbrev led_lanes : ℕ → List ℕ → List ℕ
 led_lanes lead bytes = map (λ b. cond (leb lead b) 0x80 0) bytes
 
+-- If the subtraction leaves 80 for exactly the bytes from `lead` on, tested for all 256 bytes, it
+-- does that in each lane.
 module _ (less lead : ℕ) (agree : agree_below (λ b. eqb (left_of less b) (cond (leb lead b) 0x80 0)) (λ _. true) 0x100 ≡ true) where
   pub led_are : (bytes : List ℕ) → length bytes ≡ 32 → Each1 (Fits w8) bytes → left_lanes 32 less bytes ≡ led_lanes lead bytes
   led_are bytes long fits =

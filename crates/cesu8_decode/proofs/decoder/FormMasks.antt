@@ -35,7 +35,7 @@ module _ (f : Flavor) (xs : List ℕ) (fit : Each1 (Fits w8) xs) where
   small : (i : ℕ) → x i < 256
   small = lanes_below xs fit
 
-  -- The bytes that are no character of one byte, among the first n.
+  -- The bytes that are no character of one byte, among the first n of a vector of `lanes` lanes.
   module _ (n : ℕ) {lanes first high null : ℕ} (few : n ≤ lanes) (of_first : HasBits first (λ i. ltb i n))
       (high_is : high ≡ mask_l (map (leb 0x80) xs)) (of_null : HasBits null (λ i. ltb i lanes && is_null f (x i))) where
     of_high : HasBits high (λ i. leb 0x80 (x i))
@@ -66,7 +66,8 @@ module _ (f : Flavor) (xs : List ℕ) (fit : Each1 (Fits w8) xs) where
           nulls = no_marks (is_null_at f xs) 0 n (λ i inside. one_not_null f (x (0 + i)) (w i 1) (one none i inside));
         }
 
-  -- The characters that begin with a byte from C2 on.
+  -- The characters that begin with a byte from C2 on. `below` marks the bytes with bit 40
+  -- (hexadecimal), and `wide` those with bit 20.
   module _ {high below from_c2 wide : ℕ} (high_is : high ≡ mask_l (map (leb 0x80) xs)) (of_below : HasBits below (λ i. has_bit_below 1 (x i)))
       (c2_is : from_c2 ≡ mask_l (map (leb 0xC2) xs)) (of_wide : HasBits wide (λ i. has_bit_below 2 (x i)))
       (high_fits : high < 2 ^ 64) (c2_fits : from_c2 < 2 ^ 64) (wide_fits : wide < 2 ^ 64) where

@@ -1,4 +1,5 @@
--- The pass from window to window, for the loops of `pass::windows` and for one window alone.
+-- The pass from window to window, for the loops of `pass::windows` and for one window alone. What
+-- the definitions say of `window_of bytes` at an offset is about the byte of `bytes` there.
 use Rattle.std.proofs.Common.{◌≡◌, ℕ, ◌+◌, ◌≤◌, Bool, true, false, true≢false, List, [], ◌++◌, refl, sym, ap, ◌∙◌, subst, arith, length, take, drop, append-nil, append_assoc, length-append, length-drop, take-append-drop, Result, Ok, Err, OkIff}
 use Rattle.std.proofs.lemmas.List.{length-take-le}
 use Rattle.cesu8_text.specs.Encoding.{Flavor, encoding}
@@ -63,8 +64,8 @@ module _ (f : Flavor) (which : Strictness) (bytes : List ℕ) where
     len = next.len ∙ first.len;
   }
 
-  -- The pass continues by what is written for n bytes of a window, which agrees with the input from
-  -- five bytes before these to five bytes after them.
+  -- The pass continues by what is written for n bytes of a window, from its offset p on. The window
+  -- agrees with the input from five bytes before these to five bytes after them.
   pub goes_on_by : (before after : Pass) (window old new : List ℕ) (p n : ℕ) → after.read ≡ before.read + n → after.read ≤ length bytes →
       (after.is_rejected ≡ false → IsPass f bytes after.read) → Agree window (window_of bytes) p before.read (n + 10) →
       WritesDecoded f which window p n before.end old new after.end after.is_rejected → after.end ≤ length new →

@@ -1,6 +1,8 @@
 -- What is written window by window, and what has been decoded then. The first windows are read in
 -- place, and the last ones from a copy of the last bytes with zeros after them: both give the same
 -- text. `IsDecoded` says what has been written for n bytes, or that strict decoding rejects one.
+-- What the definitions say of the window at offset i is about its byte i + 5, so for `window_of` of
+-- some bytes about byte i of these.
 use Rattle.std.proofs.lemmas.Bool.Decides.{nat_tests}
 use Rattle.std.proofs.lemmas.Grind.{common_steps}
 use Rattle.std.proofs.Common.{◌≡◌, ℕ, zero, suc, ◌+◌, ◌-◌, ◌<◌, ◌≤◌, ◌⊎◌, Bool, true, false, true≢false, List, [], ◌++◌, refl, sym, ap, ◌∙◌, arith, get_or, length, drop, replicate, zero-add, append_assoc}
@@ -30,7 +32,8 @@ use Rattle.cesu8_decode.proofs.decoder.WindowEnds.{none_in_window, found_in_wind
 
 -- ---- lengths
 
--- For a byte that is not ill-formed, at most one byte is written.
+-- For a byte that is not ill-formed, at most one byte is written, and none if it is dropped
+-- (`goes`).
 pub one_or_none : (goes : Bool) (b : ℕ) → length (written_for goes false b) ≤ 1
 one_or_none true b = omega arith
 one_or_none false b = omega arith

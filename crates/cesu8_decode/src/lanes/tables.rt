@@ -6,7 +6,7 @@ use cesu8_bytes::BLOCK;
 use cesu8_bytes::lanes::class::AtLeast;
 use std::simd::prelude::*;
 
-/// The lanes whose highest bit is set.
+/// The lanes whose highest bit is set: in an error mask of `following`, the errors.
 pub type HighestBit = AtLeast<0x80>;
 
 /// The indices of sixteen lanes, twice.
@@ -27,7 +27,8 @@ macro_rules! numbers_from {
     };
 }
 
-// Shuffles of two blocks: 32 consecutive lanes, from the number in the name on.
+// Shuffles of two blocks: 32 consecutive lanes, from the number in the name on. `FROM_31` gives the
+// byte before each byte of the second block.
 pub const FROM_28: [usize; BLOCK] = numbers_from!(28);
 
 pub const FROM_29: [usize; BLOCK] = numbers_from!(29);

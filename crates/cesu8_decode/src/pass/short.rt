@@ -34,7 +34,8 @@ pub const SHORT_LOSSY: usize = WIDEST * LANES + STORED_AFTER;
 const SOURCE: usize = LANES + LANES;
 
 /// Writes the decoded text of at most 64 bytes and returns its length, or returns an error if
-/// decoding is strict and a byte is ill-formed. `prefix` is their unchanged prefix.
+/// decoding is strict and a byte is ill-formed. `prefix` is their unchanged prefix, which is not
+/// all of them. So its mask `changed` is 0 exactly if a byte is ill-formed.
 #[inline(always)]
 #[tactic(auto, using(crate::proofs::decoder::Passes::reads_text))]
 pub fn write_short<F: Flavor, S: Reading>(

@@ -1,5 +1,5 @@
 -- The number of UTF-16 code units of a text, from its UTF-8: one for each lead byte, and two if it
--- leads four bytes.
+-- leads four bytes. `utf16_len` of `cesu8_bytes` counts by this.
 use Rattle.std.proofs.Common.{◌≡◌, ℕ, List, [], ◌∷◌, refl, arith, length, length-append, sum_by}
 use Rattle.std.specs.Str.{chars, IsUtf8}
 use Rattle.std.proofs.lemmas.Bool.Decides.{nat_tests}

@@ -15,6 +15,7 @@ unchanged_reading f bytes text equal unchanged =
     let needs_none : NeedsEncoding f (chars bytes) → ⊥ = λ needs. unchanged.1 ((needs_by_bytes f bytes unchanged.0).1 needs) in
     rw equal ((IsUtf8Of_chars bytes unchanged.0).0, encoding_is_bytes f bytes unchanged.0 needs_none)
 
--- If P does not hold, `false` decides P: what is built is never borrowed.
+-- If P does not hold, `false` decides it. This proves a clause that says when a result is borrowed,
+-- for a result that was built.
 pub never_borrowed : {P : Type 0} → ¬ P → IsTrue false ↔ P
 never_borrowed never = ((λ borrowed. absurd (false≢true borrowed)), (λ holds. absurd (never holds)))

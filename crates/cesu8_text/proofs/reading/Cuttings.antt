@@ -1,4 +1,6 @@
 -- Bounds on the length of a cutting's text, and the construction of a greedy cutting for any bytes.
+-- A cutting divides bytes into encoded characters and single bytes, which are replaced. It is
+-- greedy if it replaces no byte at which a character begins.
 use Rattle.std.proofs.Common.{◌≡◌, ℕ, suc, zero, ◌*◌, ◌≤◌, List, [], ◌∷◌, ◌++◌, Option, Some, None, refl, ap, arith, length, drop, length-append}
 use Rattle.cesu8_text.specs.Text.{IsScalarValue, utf8}
 use Rattle.cesu8_text.specs.Encoding.{Flavor, encoding}

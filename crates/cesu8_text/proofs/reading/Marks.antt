@@ -1,4 +1,5 @@
--- The function `mark` computes the relation `IsMark`: what lossy decoding writes for an offset.
+-- The function `mark` computes the relation `IsMark`: what lossy decoding writes for an offset. The
+-- stretch of a character is the offsets of its bytes.
 use Rattle.std.proofs.Common.{◌≡◌, ℕ, Bool, true, false, ◌+◌, ◌<◌, List, Option, Some, None, refl, ap, arith, drop, ltb}
 use Rattle.std.specs.List.{range_with_len}
 use Rattle.std.proofs.lemmas.List.Folds.{Any-from_list_any, list_any-from_Any}

@@ -1,5 +1,6 @@
 -- The lossy reading step by step: the character that begins the bytes, or U+FFFD for a byte that
--- begins none, then the rest.
+-- begins none, then the rest. The mark of an offset is what lossy decoding writes for it, and the
+-- stretch of a character is the offsets of its bytes.
 use Rattle.std.proofs.Common.{◌≡◌, ℕ, suc, zero, ◌+◌, ◌-◌, ◌<◌, ◌≤◌, List, [], ◌∷◌, ◌++◌, refl, sym, ◌∙◌, arith, length, drop, length-append, append_assoc, append-nil, add-zero, zero-add, suc-add}
 use Rattle.std.specs.List.{flat_map, range_with_len}
 use Rattle.std.proofs.Math.Seq.{drop-append-add}

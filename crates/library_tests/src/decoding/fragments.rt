@@ -7,7 +7,7 @@ use std::alloc::{AllocError, Global};
 use std::process::Abort;
 use test_cases::fills::FILLS;
 
-/// The next random number after one, by Marsaglia's "Xorshift RNGs".
+/// The number that a xorshift generator returns after this one.
 fn after(number: u64) -> u64 {
     let number = number ^ (number << 13);
     let number = number ^ (number >> 7);

@@ -1,5 +1,5 @@
--- The prover finds this goal by itself. But if an edit of must-fail makes the goal false, that
--- search meets a limit instead of showing that it is false.
+-- The prover proves this goal by itself. But `parse_returns_lossy_strict_for_lossy.edit` of
+-- must-fail makes the goal false, and its search then meets a limit instead of showing that.
 use Rattle.std.proofs.Common.{◌≡◌, [], ◌∷◌, map, arith}
 use Rattle.std.specs.Prelude.{codes}
 use Rattle.std.proofs.lemmas.Grind.{common_steps}

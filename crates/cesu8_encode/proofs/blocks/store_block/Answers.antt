@@ -1,5 +1,9 @@
 -- Each row is packed by its eight bits of the mask, and four rows after one another are the packed
--- block. The encoding of the first `count` bytes is a prefix of it, whose length is counted.
+-- block. The encoding of the first `count` bytes is a prefix of it. Its length is `count`, and one
+-- more for each bit that is set among the first `count` of the mask.
+--
+-- Each row is stored as 16 bytes. The last begins after what is written for the block's first 24
+-- bytes, and the contract requires space for 16 more.
 use Rattle.std.proofs.Common.{rules, ◌≤◌, ◌++◌, ap, ◌∙◌, arith, length, map, take}
 use Rattle.std.specs.List.{range_with_len}
 use Rattle.std.proofs.lemmas.List.{length-take-le}

@@ -1,5 +1,6 @@
--- If a character begins one of the two completions, its added bytes make a character of the tested
--- ones. And if any bytes do, those of one of the two completions do, by `completed` of `laws`.
+-- The function appends to the bytes the last bytes of either of two known characters. If a
+-- character begins the result, the bytes are a truncated one. Conversely, if any bytes complete
+-- them, those of one of the two do, by the clause `completed` of `laws`.
 use Rattle.std.proofs.Common.{◌<◌, ◌++◌, drop, length, inl, inr, ap, ◌∙◌, arith}
 use Rattle.std.proofs.lemmas.Bool.Decides.{nat_tests}
 use Rattle.cesu8_stream.proofs.Completions.{IsTested, found_begins, begins_found}

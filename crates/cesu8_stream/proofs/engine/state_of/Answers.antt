@@ -1,5 +1,6 @@
 -- One proof for each state: nothing is left, a character is left that did not fit, a part of a
--- character is left, or no character can begin what is left.
+-- character is left, or no character can begin what is left. The last has two cases: `may_begin`
+-- returned false, or there are six bytes or more, and no character is longer.
 use Rattle.std.proofs.Common.{◌≡◌, length, arith, ap}
 use Rattle.std.proofs.lemmas.Bool.Decides.{nat_tests}
 use Rattle.cesu8_stream.specs.Written.{IsPartial}

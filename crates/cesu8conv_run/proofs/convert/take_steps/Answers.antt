@@ -1,4 +1,6 @@
--- Steps, and another one after them, are one step (`steps-joined`).
+-- Steps, and another one after them, are one step (`steps-joined`). That proves the invariant after
+-- each step, and the contract when `take_steps` returns. `post` is what follows the part of the
+-- buffer that a step gets: nothing.
 use Rattle.std.proofs.Common.{◌-◌, length, drop}
 use Rattle.cesu8conv_run.proofs.Steps.{nothing-step}
 use Rattle.cesu8conv_run.proofs.Pieces.{steps-joined}

@@ -1,4 +1,4 @@
--- ASCII is UTF-8. Other bytes are tested.
+-- Bytes that pass the fast path are ASCII, which is UTF-8. All others are tested by `is_utf8`.
 use Rattle.std.proofs.lemmas.Bool.{iff_false}
 use Rattle.std.proofs.lemmas.Str.{IsUtf8-from_ascii}
 use Rattle.simd_cesu8.proofs.implementation.text_of.Goals as goal

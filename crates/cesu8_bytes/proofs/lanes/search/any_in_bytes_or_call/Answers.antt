@@ -1,5 +1,5 @@
--- Two vectors cover at most 128 bytes. Of more bytes, the whole vectors and the last 64 bytes cover
--- all.
+-- These goals are about 129 to 256 bytes: the whole vectors and the last 64 bytes cover them all.
+-- Fewer bytes are covered by two vectors, and more are searched by a call.
 use Rattle.std.proofs.Common.{ℕ, subst, ◌↔◌, IsTrue, ◌-◌, ◌*◌, ◌/◌, length, arith}
 use Rattle.std.specs.List.{Any}
 use Rattle.cesu8_bytes.proofs.lists.Chunks.{found_in_chunks, left_by_chunks}

@@ -1,6 +1,7 @@
 -- A lead byte from E0 to EF that precedes two continuation bytes begins a character of three bytes
 -- if the second byte is in range. ED before A0 or more begins a surrogate instead. A high surrogate
--- begins a pair if a low one follows it.
+-- begins a pair if a low one follows it. The two later returns have the same first mask, so the
+-- proof that it is right stands twice.
 use Rattle.std.proofs.Common.{eqb, refl, arith}
 use Rattle.cesu8_decode.proofs.decoder.MaskBits.{class_bits, lanes_below}
 use Rattle.cesu8_decode.proofs.decoder.ThreeMasks.{none_are, threes_are, no_pairs_are, pairs_are}

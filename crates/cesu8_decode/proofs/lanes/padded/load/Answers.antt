@@ -1,5 +1,5 @@
--- The last block is the bytes after those that are stored, with zeros after them, and the rest of
--- the source was zeros before. So the source is the bytes with zeros after them.
+-- The last block that is stored has the last bytes, with zeros after them. What follows it in the
+-- source was zeros before the call. So the source is all of the bytes, with zeros after them.
 use Rattle.std.proofs.Common.{◌≡◌, ℕ, List, ◌+◌, ◌-◌, ◌<◌, ◌≤◌, ◌++◌, ◌∙◌, ⊎_elim, refl, sym, ap, arith, length, take, drop, replicate, append_assoc, length-append, length-drop, take-append-drop}
 use Rattle.std.proofs.lemmas.Bool.{both_ways, cases_lt}
 use Rattle.std.proofs.lemmas.List.{drop-drop, drop-replicate, length-replicate, length-take-le, replicate-append-replicate, take_rest}
@@ -12,7 +12,7 @@ zeros_after source at n zeros =
     let here : n - at - 32 ≡ n - (at + 32) = omega arith in
     sym (drop-drop 32 at source) ∙ ap (drop 32) zeros ∙ drop-replicate 32 (n - at) 0 ∙ ap (λ m. replicate m 0) here
 
--- The last block is stored after the bytes before it.
+-- The last block is stored at offset `at` of a source of n bytes, after the bytes before it.
 filled : (bytes source block new : List ℕ) (at end n : ℕ) → at ≤ length bytes → length bytes ≤ at + 32 → at + 32 ≤ n →
     take at source ≡ take at bytes → drop at source ≡ replicate (n - at) 0 →
     block ≡ drop at bytes ++ replicate (32 - length (drop at bytes)) 0 → PutsAt block at source new end →
