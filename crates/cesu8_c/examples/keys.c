@@ -1,5 +1,5 @@
-// Reads the strings that Java's DataOutput.writeUTF wrote to a file, and prints each with its key for
-// a store: its CESU-8. Keys that are compared byte by byte have the order of Java's strings.
+// Reads strings as Java's DataOutput.writeUTF writes them, here in an array, and prints each with its
+// key for a store: its CESU-8. Keys that are compared byte by byte have the order of Java's strings.
 
 #include "cesu8.h"
 
