@@ -1,4 +1,5 @@
--- What bytes decode to after an unchanged prefix, for strict decoding, which goes on after it.
+-- What bytes decode to after an unchanged prefix, for strict decoding (`destinations`) and for its
+-- length (`decoded_len`), which go on after the prefix.
 use Rattle.std.proofs.Common.{◌≡◌, ℕ, ◌+◌, ◌^◌, ◌<◌, ◌≤◌, ⊎_elim, List, [], ◌∷◌, ◌++◌, refl, sym, ap, ◌∙◌, subst, arith, append_assoc, length, take, drop, length-drop, length-append, Ok, Err, Result, IsErr, Vec, vec_capacity}
 use Rattle.std.proofs.lemmas.Bool.{cases_lt, false≢true}
 use Rattle.std.proofs.lemmas.Bool.Decides.{nat_tests}

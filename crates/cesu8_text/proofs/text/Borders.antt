@@ -10,7 +10,8 @@ abbrev IsWritten : ℕ → List ℕ → List ℕ → List ℕ → Type 0
 IsWritten c utf cesu mutf =
     (utf8 (c ∷ []) ≡ utf) × (encoding Cesu8 (c ∷ []) ≡ cesu) × (encoding Mutf8 (c ∷ []) ≡ mutf)
 
--- The bounds of one byte, two, three and a surrogate pair, and U+1F496.
+-- The bounds of one byte, two, three and a surrogate pair, the values next to the surrogates, the
+-- last value with the first high surrogate (U+103FF), and U+1F496.
 borders :
     IsWritten 0x0 (0x00 ∷ []) (0x00 ∷ []) (0xC0 ∷ 0x80 ∷ [])
     × IsWritten 0x1 (0x01 ∷ []) (0x01 ∷ []) (0x01 ∷ [])
