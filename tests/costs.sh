@@ -37,8 +37,8 @@ lines=$top/bench/costs.txt
 levels=(x86-64-v2 x86-64-v3)
 rounds=4
 
-# Builds a crate for a level by `rt`, and copies one of the files that this makes:
-# `build_crate LEVEL CRATE FILE COMMAND WORD..`.
+# Builds a crate for a level by `rt`, with as many jobs as PROOF_JOBS says if the gate sets it, and
+# copies one of the files that this makes: `build_crate LEVEL CRATE FILE COMMAND WORD..`.
 build_crate() {
     local level=$1 crate=$2 file=$3 command=$4
     shift 4

@@ -1,5 +1,5 @@
-//! The fast path: up to 64 bytes are tested before a level is called, since most strings are short
-//! and need no conversion. It is inlined into the caller.
+//! The fast path: up to 64 bytes are tested before the code of a processor level (`level.rs`) is
+//! called, since most strings are short and need no conversion. It is inlined into the caller.
 
 use crate::{DecodingError, SliceError, utf8};
 

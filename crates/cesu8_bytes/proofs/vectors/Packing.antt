@@ -39,7 +39,8 @@ low_picked lanes row long =
 
 -- ---- what is kept of some bytes
 
--- If some byte is ill-formed, lanes 4 to 6 have the bytes of U+FFFD.
+-- If some byte is ill-formed, lanes 4 to 6 have the bytes of U+FFFD: `cesu8_decode` then packs only
+-- four bytes at once.
 abbrev HasReplacement : (ℕ → ℕ) → ℕ → Type 0
 HasReplacement lane ill_formed = 0 < ill_formed → map lane (4 ∷ 5 ∷ 6 ∷ []) ≡ 0xEF ∷ 0xBF ∷ 0xBD ∷ []
 
