@@ -28,10 +28,10 @@ pub(crate) fn ascii<const WITHOUT_NULL: bool>(bytes: &[u8]) -> Option<&str> {
 /// Returns what a lenient call returns for at most 64 bytes, if they are ASCII or if the test for
 /// UTF-8 alone decides it. Otherwise it returns `None`, and a level decides.
 ///
-/// The test decides if a strict call would return the bytes unchanged or reject them. It rejects a
-/// byte from F0 on. It changes only what begins with ED, or, in MUTF-8 (`WITH_NULL`), with C0. Only
-/// up to seven bytes are searched for these two, since for so few a level takes longer than the
-/// test.
+/// The test decides if a strict call would return the bytes unchanged or reject them. A strict call
+/// rejects any byte from F0 on. It changes only what begins with ED, or, in MUTF-8 (`WITH_NULL`),
+/// with C0. Only up to seven bytes are searched for these two, since for so few a level takes
+/// longer than the test.
 #[cfg_attr(not(debug_assertions), inline(always))]
 pub(crate) fn lenient<const WITH_NULL: bool>(bytes: &[u8]) -> Option<Result<&str, DecodingError>> {
     // SAFETY: it is called for ASCII, and for bytes that `is_utf8` has tested.
