@@ -1,5 +1,6 @@
--- Packing by a shuffle that drops some lanes, and packing 32 bytes by four such shuffles. A set of
--- lanes is a number with a bit for each lane: the mask of a list of tests.
+-- Packing by a shuffle that drops some lanes, for `store_eight` and the decoder's `store_four`, and
+-- packing 32 bytes by four such shuffles, for `store_kept`. A set of lanes is a number with a bit
+-- for each lane: the mask of a list of tests.
 use Rattle.std.proofs.lemmas.Grind.{common_steps}
 use Rattle.std.proofs.Common.{◌≡◌, ℕ, zero, suc, ◌+◌, ◌/◌, ◌%◌, ◌-◌, ◌^◌, ◌<◌, ◌≤◌, Bool, true, false, cond, List, [], ◌∷◌, ◌++◌, map, length, take, drop, get_or, replicate, leb, refl, sym, ap, ◌∙◌, subst, arith, w8, length-append, append-nil, append_assoc, bit_and}
 use Rattle.std.specs.List.{range_with_len}

@@ -1,5 +1,6 @@
 -- Bytes that can follow each other, by the classes of adjacent bytes (`pair_class` in
--- specs/Following), are the bytes of whole encoded characters.
+-- specs/Following), are the bytes of whole encoded characters. `LongestPrefixes` proves the
+-- converse.
 use Rattle.std.proofs.Common.{◌≡◌, ℕ, ◌<◌, ◌≤◌, ◌⊎◌, inl, inr, Bool, true, false, ◌&&◌, not, cond, eqb, leb, ltb, ⊎_elim, arith, zero, suc, ◌↔◌, List, [], ◌∷◌, refl, sym, ◌∙◌, length, take, true≢false, suc-add}
 use Rattle.std.proofs.lemmas.Bool.{cases_lt, le-leb, le-ltb, and_parts, eqb-true, cases_eq, cases_Bool}
 use Rattle.std.proofs.lemmas.Bool.Decides.{nat_tests}

@@ -1,5 +1,6 @@
 -- The first and the last scalar value of each width, in UTF-8, CESU-8 and MUTF-8, computed by the
--- definitions and equal to the bytes that the standards give.
+-- definitions and equal to the bytes that the standards give. This tests the definitions: no proof
+-- uses it.
 use Rattle.std.proofs.Common.{◌≡◌, ℕ, List, [], ◌∷◌, rules}
 use Rattle.cesu8_text.specs.Text.{utf8_of, utf8}
 use Rattle.cesu8_text.specs.Utf16.{units_of}
