@@ -156,6 +156,7 @@ fn any_in_words<const LEAST: u8, const OR_NULL: bool>(bytes: &[u8]) -> bool {
         // If some byte is 00, the subtraction sets the high bit of the lowest such byte.
         least | if OR_NULL { word.wrapping_sub(HIGH >> 7) & !word } else { 0 }
     };
+    // `None` never occurs: each word that is tested lies within the bytes.
     let word = |at: usize| match bytes[at..].first_chunk() {
         Some(word) => test(u64::from_le_bytes(*word)),
         None => HIGH,
