@@ -97,8 +97,8 @@ cost_of_calls() {
         awk -v level="$1" '{ printf "%s %s %.1f %.1f\n", $1, level, $3 / $2, $4 / $2 }'
 }
 
-# Prints the cost of a run of a workload and what was counted separately. The inputs have the seed
-# 1: `sums_of LEVEL NAME ROUNDS`.
+# Prints the cost of a run of a workload, with the seed 1 for its inputs, and what was counted
+# separately: `sums_of LEVEL NAME ROUNDS`.
 sums_of() {
     simulate "$1" '' ./workloads "$2" 1 "$3" &&
         awk -v library=workloads -v driver=none -f "$top/tests/costs.awk" "$scratch/counts"
