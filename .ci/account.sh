@@ -68,7 +68,7 @@ read_seconds() {
     seconds=$((user + system))
 }
 
-# Notes the processor time that this shell and its children took, as that of a part: `note_seconds NAME`.
+# Notes the processor time of this shell's children as that of a part: `note_seconds NAME`.
 note_seconds() {
     times >"$scratch/part.$BASHPID"
     read_seconds "$scratch/part.$BASHPID"

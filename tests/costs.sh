@@ -37,8 +37,8 @@ lines=$top/bench/costs.txt
 levels=(x86-64-v2 x86-64-v3)
 rounds=4
 
-# Builds a crate for a level by `rt`, and copies one of the files that this makes:
-# `build_crate LEVEL CRATE FILE COMMAND WORD..`.
+# Builds a crate for a level by `rt`, with as many jobs as PROOF_JOBS says if the gate sets it, and
+# copies one of the files that this makes: `build_crate LEVEL CRATE FILE COMMAND WORD..`.
 build_crate() {
     local level=$1 crate=$2 file=$3 command=$4
     shift 4
@@ -90,14 +90,15 @@ simulate() {
 # Prints the single calls at a level, each with its cost and what was counted separately.
 cost_of_calls() {
     simulate "$1" '--zero-before=begin_counting --dump-before=end_counting' ../costs || return
-    # After the last call comes the end of the program.
+    # After the last call comes the end of the program. For each call the program has printed its
+    # name, and how often it was made while callgrind counted.
     awk -v library=measured.so -v driver=costs -f "$top/tests/costs.awk" "$scratch/counts" |
         head -n -1 | paste -d ' ' "$scratch/printed" - |
         awk -v level="$1" '{ printf "%s %s %.1f %.1f\n", $1, level, $3 / $2, $4 / $2 }'
 }
 
-# Prints the two sums of a run of a workload, whose inputs have the seed 1:
-# `sums_of LEVEL NAME ROUNDS`.
+# Prints the cost of a run of a workload, with the seed 1 for its inputs, and what was counted
+# separately: `sums_of LEVEL NAME ROUNDS`.
 sums_of() {
     simulate "$1" '' ./workloads "$2" 1 "$3" &&
         awk -v library=workloads -v driver=none -f "$top/tests/costs.awk" "$scratch/counts"

@@ -1,6 +1,6 @@
 # Makes the completion for bash from what `cesu8conv --help` prints: for each argument the words that it
 # can be, and the options. release/dist.sh runs it. The completion goes by the position of a word:
-# first come the words of each argument, and only after these options and names of files.
+# it offers the words of each argument, and only then options and names of files.
 
 /^Arguments:/ { part = "arguments"; next }
 /^Options:/ { part = "options"; next }

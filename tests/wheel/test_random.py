@@ -113,6 +113,7 @@ class Random(unittest.TestCase):
             errors = self.random.choice(ENCODE_HANDLERS)
             wanted: object
             try:
+                # Python's codec for UTF-8 rejects the same code units, so its error is expected.
                 text.encode("utf-8", errors)
                 wanted = model.encoded_by(text, encoding, errors)
             except UnicodeEncodeError as error:

@@ -20,8 +20,9 @@ abbrev pub six_bits : ℕ → ℕ → ℕ
 six_bits b next = bit_or (bit_and (b * 4 % 0x100) 0x3C) (bit_and (next / 0x10) 3)
 
 -- The second of two bytes, or the only one. The second and the third byte of the high surrogate
--- have six bits each, from the first three bytes of four. The second byte of the low surrogate has
--- the last bits of the third.
+-- have six bits each, from the first three bytes of four. The six bits of the first byte are the
+-- plane, of which a surrogate stores one less: so 9F is added, not A0. The second byte of the low
+-- surrogate has the last bits of the third.
 abbrev pub changed : Flavor → ℕ → ℕ → ℕ → ℕ → ℕ
 changed f two_before before b next =
     if is_at_least_f0 b || is_at_least_f0 before

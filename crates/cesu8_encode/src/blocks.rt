@@ -138,7 +138,9 @@ struct EncodedBlock {
     doubled: u64,
 }
 
-/// Computes the lanes of the block that begins two bytes after `at`.
+/// Computes the lanes of the block that begins two bytes after `at`. Of the four bytes `a b c d` of
+/// a character, `a` becomes ED and the second byte of the high surrogate, and `b` its third byte.
+/// `c` becomes ED and the second byte of the low surrogate, and `d` is unchanged.
 #[inline(always)]
 fn encode_block<F: Flavor>(window: &[u8], at: usize) -> EncodedBlock
     requires { at + BLOCK_READ ≤ length window.now }
@@ -154,7 +156,8 @@ fn encode_block<F: Flavor>(window: &[u8], at: usize) -> EncodedBlock
     // The last four bits of each byte and two bits of the next one.
     let six_bits = ((bytes << u8x32::splat(2)) & u8x32::splat(0x3C))
         | ((next >> u8x32::splat(4)) & u8x32::splat(0x03));
-    // For a lead byte, 9F instead of 80: A0, a pair's least second byte, less the plane offset.
+    // The six bits of a lead byte are the plane. The second byte of a high surrogate is A0 plus the
+    // plane less one, so 9F is added. For the next byte it is 80, as for any continuation byte.
     let of_high = six_bits.strict_add(u8x32::splat(0x80) | (lead & u8x32::splat(0x1F)));
     let other = bytes | (lead_two_before & u8x32::splat(0x30)) | (null & u8x32::splat(0x80));
     let is_of_high = lead | lead_before;

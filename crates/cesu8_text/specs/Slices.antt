@@ -2,8 +2,8 @@
 use Rattle.std.specs.Prelude.{◌≡◌, ℕ, List, ◌++◌, length, drop}
 use Rattle.cesu8_text.specs.Text.{utf8}
 
--- The call returns the length of the result and writes it to the start of the buffer; the rest is
--- unchanged.
+-- The call writes the result to the start of the buffer and returns its length. The rest of the
+-- buffer is unchanged.
 abbrev pub StandsAtFront : List ℕ → ℕ → List ℕ → List ℕ → Type 0
 StandsAtFront answer len old new = (len ≡ length answer) × (new ≡ answer ++ drop len old)
 

@@ -1,5 +1,7 @@
--- Conversions of a piece of the input: one step after the other. `room` is the buffer that steps
--- write to. `w`, `w0`, `w1` and `w2` are what the writer holds, or `None` if that is not known.
+-- Conversions of a piece of the input, one step after the other, for `take_steps` and
+-- `convert_piece` (`convert.rt`). `room` is the buffer that steps write to, `tail` the part of it
+-- that the last step wrote to, and `post` what follows that part.
+-- `w`, `w0`, `w1` and `w2` are what the writer holds, or `None` if that is not known.
 use Rattle.std.proofs.Common.{◌≡◌, ℕ, ◌+◌, ◌-◌, ◌<◌, ◌≤◌, Bool, true, List, [], ◌++◌, length, take, drop, ap, ◌∙◌, append_assoc, arith, length-drop, length-append}
 use Rattle.std.specs.Prelude.{Option}
 use Rattle.std.specs.Io.KnownBytes.{Appends}

@@ -6,7 +6,7 @@ use std::io;
 #[derive(Drop)]
 pub enum Fault {
     /// No character of the input begins at this offset. The second number says how many bytes from
-    /// there on were read.
+    /// there on were read: `convert` leaves them at the front of its window, for the message.
     Damage(u64, usize),
     /// A read failed.
     Read(io::Error),

@@ -1,4 +1,6 @@
--- Forms (a text's MUTF-8 after its length in two bytes) in a caller's buffer.
+-- Forms (a text's MUTF-8 after its length in two bytes) in a caller's buffer, mostly for
+-- `write_utf_to_slice`. `mid_of 2 room` is the part of `room` bytes after the buffer's first two,
+-- and `put_mid` puts other bytes in its place.
 use Rattle.std.proofs.Common.{◌≡◌, ℕ, ◌+◌, ◌/◌, ◌%◌, ◌<◌, ◌≤◌, List, [], ◌∷◌, ◌++◌, Ok, Err, refl, sym, ap, ◌∙◌, subst, arith, get_or, length, take, drop, append_assoc, length-drop}
 use Rattle.std.proofs.lemmas.Bool.{false≢true}
 use Rattle.std.proofs.lemmas.List.{take-append-drop, drop-append-le, length-take, length-take-le}

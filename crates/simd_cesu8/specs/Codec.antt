@@ -1,4 +1,4 @@
--- The code's `Flavor` as a value, and the `Flavor` of the definitions.
+-- The code's enum `Flavor`, which a `CountedText` has, as the `Flavor` of the definitions.
 use Rattle.cesu8_text.specs.Encoding.{Flavor, Cesu8, Mutf8}
 use Rattle.simd_cesu8.specs.declared.codec.encoding.Flavor.{Flavor as FlavorOption}
 use Rattle.simd_cesu8.specs.declared.codec.encoding.Flavor.TheVariants as options

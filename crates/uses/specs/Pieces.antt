@@ -1,4 +1,4 @@
--- CESU-8 that comes in pieces.
+-- What `append_piece` promises for CESU-8 that comes in pieces.
 use Rattle.std.specs.Prelude.{◌≡◌, ℕ, List, [], ◌++◌}
 use Rattle.simd_cesu8.specs.Text.{IsText, utf8}
 use Rattle.simd_cesu8.specs.Encoding.{Cesu8, encoding}

@@ -1,5 +1,5 @@
-//! The fast path: up to 64 bytes are tested before a level is called, since most strings are short
-//! and need no conversion. It is inlined into the caller.
+//! The fast path: up to 64 bytes are tested before the code of a processor level (`level.rs`) is
+//! called, since most strings are short and need no conversion. It is inlined into the caller.
 
 use crate::{DecodingError, SliceError, utf8};
 
@@ -14,8 +14,8 @@ const NON_ASCII: u8 = 0x80;
 /// The least byte that leads four bytes of UTF-8.
 const LEAD_OF_FOUR: u8 = 0xF0;
 
-/// Returns the bytes as a text if they are few and all ASCII. With `WITHOUT_NULL` no byte may be
-/// 00.
+/// Returns the bytes as a text if there are at most 64 and all are ASCII. With `WITHOUT_NULL` no
+/// byte may be 00.
 #[inline]
 pub(crate) fn ascii<const WITHOUT_NULL: bool>(bytes: &[u8]) -> Option<&str> {
     if bytes.len() > SHORT || any_in_short::<NON_ASCII, WITHOUT_NULL>(bytes) {
@@ -28,10 +28,10 @@ pub(crate) fn ascii<const WITHOUT_NULL: bool>(bytes: &[u8]) -> Option<&str> {
 /// Returns what a lenient call returns for at most 64 bytes, if they are ASCII or if the test for
 /// UTF-8 alone decides it. Otherwise it returns `None`, and a level decides.
 ///
-/// The test decides if a strict call would return the bytes unchanged or reject them. It rejects a
-/// byte from F0 on. It changes only what begins with ED, or, in MUTF-8 (`WITH_NULL`), with C0. Only
-/// up to seven bytes are searched for these two, since for so few a level takes longer than the
-/// test.
+/// The test decides if a strict call would return the bytes unchanged or reject them. A strict call
+/// rejects any byte from F0 on. It changes only what begins with ED, or, in MUTF-8 (`WITH_NULL`),
+/// with C0. Only up to seven bytes are searched for these two, since for so few a level takes
+/// longer than the test.
 #[cfg_attr(not(debug_assertions), inline(always))]
 pub(crate) fn lenient<const WITH_NULL: bool>(bytes: &[u8]) -> Option<Result<&str, DecodingError>> {
     // SAFETY: it is called for ASCII, and for bytes that `is_utf8` has tested.
@@ -80,8 +80,8 @@ fn any_zero(word: u64) -> bool {
     word.wrapping_sub(HIGH >> 7) & !word & HIGH != 0
 }
 
-/// Copies the bytes to a slice if they are few and all ASCII. With `WITHOUT_NULL` no byte may be 00.
-/// It is not inlined, so that not every call to a slice has a copy of it.
+/// Copies the bytes to a slice if there are at most 64 and all are ASCII. With `WITHOUT_NULL` no
+/// byte may be 00. It is not inlined, so that not every call to a slice has a copy of it.
 #[inline(never)]
 pub(crate) fn copy_ascii<const WITHOUT_NULL: bool>(
     bytes: &[u8],
@@ -153,9 +153,10 @@ fn any_in_words<const LEAST: u8, const OR_NULL: bool>(bytes: &[u8]) -> bool {
     let test = |word: u64| {
         let least =
             if LEAST == NON_ASCII { word } else { word & word << 1 & word << 2 & word << 3 };
-        // If 00 is there, the subtraction sets the high bit of the lowest byte that is.
+        // If some byte is 00, the subtraction sets the high bit of the lowest such byte.
         least | if OR_NULL { word.wrapping_sub(HIGH >> 7) & !word } else { 0 }
     };
+    // `None` never occurs: each word that is tested lies within the bytes.
     let word = |at: usize| match bytes[at..].first_chunk() {
         Some(word) => test(u64::from_le_bytes(*word)),
         None => HIGH,
@@ -164,6 +165,7 @@ fn any_in_words<const LEAST: u8, const OR_NULL: bool>(bytes: &[u8]) -> bool {
         0 => 0,
         // These are from `is_unchanged`: a text that is so short has no character of four bytes.
         1..4 if LEAST == LEAD_OF_FOUR && !OR_NULL => 0,
+        // The high half gets bytes of 01, which pass no test, in place of its zeros.
         1..4 => test(word_of_few(bytes) | HIGH >> 7 << 32),
         4..8 => test(word_of_few(bytes)),
         8..=16 => word(0) | word(len - 8),

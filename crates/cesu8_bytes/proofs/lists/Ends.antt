@@ -1,4 +1,5 @@
--- The first and the last elements of a list, which may overlap, and what follows an index.
+-- The first and the last elements of a list, which may overlap, as `any_in_ends` tests them, and
+-- what follows an index.
 use Rattle.std.proofs.lemmas.Grind.{common_steps}
 use Rattle.std.proofs.Common.{◌≡◌, ℕ, Bool, IsTrue, ◌||◌, ◌+◌, ◌-◌, ◌*◌, ◌≤◌, ◌↔◌, List, length, take, drop, sym, ap, ◌∙◌, subst, ⊎_elim, arith}
 use Rattle.std.specs.List.{Any}

@@ -1,5 +1,6 @@
--- Packing by a shuffle that drops some lanes, and packing 32 bytes by four such shuffles. A set of
--- lanes is a number with a bit for each lane: the mask of a list of tests.
+-- Packing by a shuffle that drops some lanes, for `store_eight` and the decoder's `store_four`, and
+-- packing 32 bytes by four such shuffles, for `store_kept`. A set of lanes is a number with a bit
+-- for each lane: the mask of a list of tests.
 use Rattle.std.proofs.lemmas.Grind.{common_steps}
 use Rattle.std.proofs.Common.{◌≡◌, ℕ, zero, suc, ◌+◌, ◌/◌, ◌%◌, ◌-◌, ◌^◌, ◌<◌, ◌≤◌, Bool, true, false, cond, List, [], ◌∷◌, ◌++◌, map, length, take, drop, get_or, replicate, leb, refl, sym, ap, ◌∙◌, subst, arith, w8, length-append, append-nil, append_assoc, bit_and}
 use Rattle.std.specs.List.{range_with_len}
@@ -39,7 +40,8 @@ low_picked lanes row long =
 
 -- ---- what is kept of some bytes
 
--- If some byte is ill-formed, lanes 4 to 6 have the bytes of U+FFFD.
+-- If some byte is ill-formed, lanes 4 to 6 have the bytes of U+FFFD: `cesu8_decode` then packs only
+-- four bytes at once.
 abbrev HasReplacement : (ℕ → ℕ) → ℕ → Type 0
 HasReplacement lane ill_formed = 0 < ill_formed → map lane (4 ∷ 5 ∷ 6 ∷ []) ≡ 0xEF ∷ 0xBF ∷ 0xBD ∷ []
 

@@ -1,4 +1,5 @@
--- The length of the lossy reading: three bytes for each byte, less what each offset saves.
+-- The length of the lossy reading, as `lossy_len` counts it: three bytes for each byte, as if
+-- U+FFFD replaced it, less what each offset saves (`saved`).
 use Rattle.std.proofs.Common.{◌≡◌, ℕ, ◌+◌, ◌*◌, ◌^◌, ◌-◌, ◌<◌, ◌≤◌, ⊎_elim, List, [], ◌∷◌, ◌++◌, refl, ap, ◌∙◌, arith, length, length-append, Result, Ok, Err}
 use Rattle.std.specs.Option.{IfSome, IfNone}
 use Rattle.std.specs.Result.{OkIff, result_ok}

@@ -1,5 +1,6 @@
 -- Bytes that can follow each other, by the classes of adjacent bytes (`pair_class` in
--- specs/Following), are the bytes of whole encoded characters.
+-- specs/Following), are the bytes of whole encoded characters. `LongestPrefixes` proves the
+-- converse.
 use Rattle.std.proofs.Common.{◌≡◌, ℕ, ◌<◌, ◌≤◌, ◌⊎◌, inl, inr, Bool, true, false, ◌&&◌, not, cond, eqb, leb, ltb, ⊎_elim, arith, zero, suc, ◌↔◌, List, [], ◌∷◌, refl, sym, ◌∙◌, length, take, true≢false, suc-add}
 use Rattle.std.proofs.lemmas.Bool.{cases_lt, le-leb, le-ltb, and_parts, eqb-true, cases_eq, cases_Bool}
 use Rattle.std.proofs.lemmas.Bool.Decides.{nat_tests}
@@ -38,6 +39,7 @@ class_by nul above on led ascii no_lead c0 long c1 overlong low =
     cond nul 0xFF (cond above 0x40 (cond (not on) (cond led 0x01 0) (cond ascii 0x02 (cond no_lead 0x80
     (cond c0 (cond long 0 0x10) (cond c1 0x08 (cond overlong 0x04 (cond low 0x20 0))))))))
 
+-- What the classes 20 and 00 (hexadecimal) say of the tests, here and then of two bytes.
 by_tests : (nul above on led ascii no_lead c0 long c1 overlong low : Bool) →
     let n = class_by nul above on led ascii no_lead c0 long c1 overlong low in
     (n ≡ 0x20 → (on ≡ true) × (low ≡ true))
@@ -122,8 +124,8 @@ follows_later s f a i window = rw (suc-add i 1, suc-add i 2, suc-add i 3, suc-ad
 crosses_later : (s : CharacterSet) (a i : ℕ) (window : List ℕ) → crosses_at s (a ∷ window) (suc i) ≡ crosses_at s window i
 crosses_later s a i window = rw (suc-add i 1, suc-add i 2, suc-add i 3) refl
 
--- The first n bytes of a window can follow each other, by their index, and no character crosses
--- their end.
+-- The n bytes of a window after its first four can follow each other, by their index, and no
+-- character crosses their end.
 abbrev pub FollowBefore : CharacterSet → Flavor → List ℕ → ℕ → Type 0
 FollowBefore s f window n = ((k : ℕ) → k < n → follows_at s f window k ≡ true) × (crosses_at s window n ≡ false)
 

@@ -62,7 +62,7 @@ below_low : (s : CharacterSet) (b : ℕ) → b < 0xA0 → b < first_low s
 below_low s b low = grind arith
 
 -- The bytes of a character and of the rest can follow each other, if those of the rest can after
--- any whole character.
+-- any whole character. The four bytes before them are a, b, d and e.
 module _ (s : CharacterSet) (f : Flavor) (rest : List ℕ) (then : (a b d e : ℕ) → Ends s a b d e → FollowToEnd s f a b d e rest) (a b d e : ℕ) (ends : Ends s a b d e) where
   fit_one : (g : ℕ) → g < 0x80 → is_null f g ≡ false → FollowToEnd s f a b d e (g ∷ rest)
   fit_one g ascii null = (grind (arith, nat_tests, class_of_first), then b d e g (grind (arith, nat_tests)))
@@ -161,7 +161,8 @@ before_lead : (s : CharacterSet) (f : Flavor) → has_changed s ≡ false → (a
     crosses s a b d e ≡ false
 before_lead s f none a b d e g high fits = let tests = rw (class_of_lead s f e g high, none) at fits in grind (arith, nat_tests)
 
--- If the character that a byte from C0 on begins is cut off, the prefix ends before this byte.
+-- If the character that a byte from C0 on begins is cut off, the prefix ends before this byte. It
+-- is byte n: `after_fillers` puts four zeros before the bytes.
 pub cut_at : (s : CharacterSet) (f : Flavor) (bytes : List ℕ) (m n : ℕ) → has_changed s ≡ false → FollowUpTo s f bytes m → n < m →
     0xC0 ≤ get_or (after_fillers bytes) (n + 4) 0 → ((k : ℕ) → n < k → k ≤ m → crosses_at s (after_fillers bytes) k ≡ true) → IsLongestPrefix s f bytes n
 cut_at s f bytes m n none up_to before high crossed =

@@ -1,5 +1,5 @@
--- Text that is decoded chunk by chunk to a vector: what one chunk appends, and what all have
--- appended if the last byte is read.
+-- Text that is decoded chunk by chunk to a vector: what one chunk appends, and what all of them
+-- have appended once the last byte is read.
 use Rattle.std.proofs.lemmas.Bool.Decides.{nat_tests}
 use Rattle.std.proofs.lemmas.Grind.{common_steps}
 use Rattle.std.proofs.Common.{◌≡◌, ℕ, List, [], ◌++◌, refl, sym, ap, ◌∙◌, arith, length, subst}

@@ -1,4 +1,5 @@
--- What bytes decode to after an unchanged prefix, for strict decoding, which goes on after it.
+-- What bytes decode to after an unchanged prefix, for strict decoding (`destinations`) and for its
+-- length (`decoded_len`), which go on after the prefix.
 use Rattle.std.proofs.Common.{◌≡◌, ℕ, ◌+◌, ◌^◌, ◌<◌, ◌≤◌, ⊎_elim, List, [], ◌∷◌, ◌++◌, refl, sym, ap, ◌∙◌, subst, arith, append_assoc, length, take, drop, length-drop, length-append, Ok, Err, Result, IsErr, Vec, vec_capacity}
 use Rattle.std.proofs.lemmas.Bool.{cases_lt, false≢true}
 use Rattle.std.proofs.lemmas.Bool.Decides.{nat_tests}
@@ -127,6 +128,7 @@ pub needed_length : (f : Flavor) (rest old new : List ℕ) (no_room : NoRoom) �
     (no_room.needed ≤ length rest) × (length old < no_room.needed)
 needed_length f rest old new no_room puts = grind (arith, nat_tests, text_length)
 
+-- `start` is where the text of the rest is written: n, or the end of a slice that is shorter.
 module _ (f : Flavor) (bytes buf : List ℕ) (n : ℕ) (prefix : IsLongestPrefix Unchanged f bytes n) (small : length bytes < 2 ^ 64) where
   read : IsChunk f Strict bytes (drop n bytes) (take n bytes)
   read = unchanged_prefix_chunk f bytes n prefix Strict

@@ -7,8 +7,10 @@ use Rattle.cesu8_decode.specs.Masks.{HasBits, has_bit_below, is_long_lead_at, is
 use Rattle.cesu8_decode.proofs.decoder.MaskBits.{by_equal_test, and_bits, or_bits, without_bits, later_bits, no_bits, none_set}
 use Rattle.cesu8_decode.proofs.decoder.MaskTests.{whole_by, surrogate_by, pair_by, three_bits, pair_bits, no_surrogate, no_lead_no_three, no_lead_no_pair}
 
--- The masks that `threes_and_pairs` (`lanes/masks.rt`) computes. `odd` marks the bytes with bit 10
--- (hexadecimal), `wide` those with bit 20, and `led` the bytes ED.
+-- The masks that `threes_and_pairs` (`lanes/masks.rt`) computes. `leads` marks the bytes from E0 on
+-- that a continuation byte follows, and `second` any byte that one follows. `odd` marks the bytes
+-- with bit 10 (hexadecimal), `wide` those with bit 20, `led` the bytes ED, and `lowest` those that
+-- are E0.
 abbrev whole_of : (leads second odd : ℕ) → ℕ
 whole_of leads second odd = bit_and (bit_and leads (second / 2)) (bit_not w64 odd)
 

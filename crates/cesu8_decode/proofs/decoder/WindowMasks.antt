@@ -30,7 +30,12 @@ not_other one covered h = grind arith
 
 -- ---- windows
 
+-- The window begins at offset `at`, and its masks are about the n offsets from there on. What
+-- `is_ill_formed_at` and `is_boundary_at` say of `window_of` at offset i is about its byte i + 5,
+-- so about byte i of the bytes.
 module _ (f : Flavor) (bytes : List ℕ) (at n : ℕ) (boundary : is_boundary_at f (window_of bytes) at ≡ true) where
+  -- The width of the character at the i-th offset, and whether the byte there is covered by a
+  -- character of the window (of two bytes or more), is ill-formed, or is a character by itself.
   abbrev w : ℕ → ℕ
   w i = width_at f bytes (at + i)
 
@@ -225,6 +230,7 @@ module _ (f : Flavor) (lanes bytes : List ℕ) (at n r : ℕ) (masks : Masks) (s
       omega (arith, ends_by_zero f bytes (at + i) (at + 64) (omega arith) (sym (alike 64 (omega arith)) ∙ get_or_past lanes 64 0 short)))
       (cases_lt n 60)
 
+  -- The masks `threes`, `begins` and `covered` of `window_of_lanes`. The last one is `mask` here.
   abbrev threes : ℕ
   threes = bit_or (bit_or masks.threes masks.pairs) (masks.pairs * 2 ^ 3 % 2 ^ 64)
 

@@ -1,5 +1,6 @@
 -- The first and the last scalar value of each width, in UTF-8, CESU-8 and MUTF-8, computed by the
--- definitions and equal to the bytes that the standards give.
+-- definitions and equal to the bytes that the standards give. This tests the definitions: no proof
+-- uses it.
 use Rattle.std.proofs.Common.{◌≡◌, ℕ, List, [], ◌∷◌, rules}
 use Rattle.cesu8_text.specs.Text.{utf8_of, utf8}
 use Rattle.cesu8_text.specs.Utf16.{units_of}
@@ -10,7 +11,8 @@ abbrev IsWritten : ℕ → List ℕ → List ℕ → List ℕ → Type 0
 IsWritten c utf cesu mutf =
     (utf8 (c ∷ []) ≡ utf) × (encoding Cesu8 (c ∷ []) ≡ cesu) × (encoding Mutf8 (c ∷ []) ≡ mutf)
 
--- The bounds of one byte, two, three and a surrogate pair, and U+1F496.
+-- The bounds of one byte, two, three and a surrogate pair, the values next to the surrogates, the
+-- last value with the first high surrogate (U+103FF), and U+1F496.
 borders :
     IsWritten 0x0 (0x00 ∷ []) (0x00 ∷ []) (0xC0 ∷ 0x80 ∷ [])
     × IsWritten 0x1 (0x01 ∷ []) (0x01 ∷ []) (0x01 ∷ [])

@@ -3,7 +3,8 @@
 //! The numbers below follow from the byte patterns. In CESU-8, 128 * 128 inputs are two characters
 //! of ASCII, and 30 * 64 are a character of two bytes: together 18,304. Of the others,
 //! 2 * 128 * 128 have one byte of ASCII and one ill-formed byte, and the rest have two ill-formed
-//! bytes. In MUTF-8, 00 is ill-formed and C0 80 is a character.
+//! bytes. In MUTF-8, 00 is ill-formed and C0 80 is a character. A lenient call also accepts input
+//! that is UTF-8, in which 00 is a character.
 
 use crate::asserts::{assert_of, assert_same};
 use std::alloc::Global;

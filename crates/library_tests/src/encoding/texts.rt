@@ -84,7 +84,7 @@ fn requests(buf: &mut Vec<u8>) -> Option<u32> {
 }
 
 /// Each allocation changes the capacity, so counting the changes counts the allocations. A thousand
-/// small ones would be slow.
+/// small ones would be slow. A buffer that doubles its capacity makes about ten.
 #[test]
 fn makes_few_requests(rt: HostRuntime) {
     let mut buf = Vec::new(rt.alloc());

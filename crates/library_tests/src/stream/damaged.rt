@@ -56,8 +56,8 @@ fn reads_damage_in_two_pieces(rt: HostRuntime) {
     }
 }
 
-/// Tests damaged bytes with small buffers. Each call reads a byte or more of the at most nine, so
-/// 16 calls are enough.
+/// Tests damaged bytes with buffers of 4 to 8 bytes. With four or more, each call reads at least
+/// one of the at most nine bytes, so 16 calls are enough.
 fn assert_through(rt: &impl Abort, is_mutf8: bool, bytes: &[u8], text: &str) {
     for size in 4..9 {
         let mut buf = [0; 8];

@@ -1,4 +1,5 @@
--- A window with zeros before the first block and the text after it gives what the whole text gives.
+-- The window has two zeros, the first block and the byte after it. What `write_block` writes for
+-- its block is what is written for the first 32 bytes of the whole text.
 use Rattle.std.proofs.Common.{◌-◌, ◌∷◌, ap, ◌∙◌, arith, length}
 use Rattle.cesu8_encode.proofs.encoder.EncodedWindows.{encoded_bytes_first, room_for_parts}
 use Rattle.cesu8_encode.proofs.blockwise.write_first_block.Goals as goal

@@ -1,5 +1,5 @@
 -- What was taken so far was converted and written. The unread bytes at the front of the window come
--- next in the input.
+-- next in the input, which may go on after them (`false`).
 use Rattle.std.proofs.Common.{◌≤◌, false, length, take}
 use Rattle.cesu8conv_run.specs.Stream.{IsSoFar}
 use Rattle.cesu8conv_run.proofs.convert.convert.Given as goal

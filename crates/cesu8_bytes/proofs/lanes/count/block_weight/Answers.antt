@@ -1,5 +1,5 @@
--- After each vector the lanes have counted one vector more. A lane counts at most a block's
--- vectors, so no addition overflows a byte.
+-- After each vector the lanes have counted one vector more. A block here is 16 vectors, so a lane
+-- counts at most 16, and no addition overflows a byte.
 use Rattle.std.proofs.Common.{arith}
 use Rattle.cesu8_text.specs.Class.{is_four}
 use Rattle.cesu8_bytes.proofs.vectors.Counts.{block_counted, one_more_fits, counted_more}

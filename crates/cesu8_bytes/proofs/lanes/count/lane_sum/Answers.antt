@@ -1,5 +1,5 @@
--- Each of the 16 dot products sums four lanes, and their sum is that of all lanes. No partial sum
--- overflows 32 bits.
+-- Each of the 16 dot products sums four of the 64 lanes, and their sum is that of all lanes. No
+-- partial sum overflows 32 bits.
 use Rattle.std.proofs.Common.{arith}
 use Rattle.std.proofs.lemmas.Simd.{dot4_Fits}
 use Rattle.cesu8_bytes.proofs.vectors.Counts.{dots_sum_fits, dots_sum}

@@ -1,5 +1,6 @@
 -- The weights of the blocks so far, of the next block (1,024 bytes) and of the rest are together
--- those of the whole. A byte weighs at most two, so the sums do not overflow.
+-- those of the whole. No class of `CountsOne` has a lead byte of four. So a byte weighs at most
+-- two, and the sums do not overflow.
 use Rattle.std.proofs.Common.{arith}
 use Rattle.cesu8_text.specs.Class.{weight_of}
 use Rattle.cesu8_bytes.proofs.vectors.Counts.{weight_bound, sum_by_chunk}

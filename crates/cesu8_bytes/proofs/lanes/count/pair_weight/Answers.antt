@@ -1,5 +1,5 @@
--- The first `N` bytes and the rest in the last `N` are all bytes. A byte weighs at most two, so the
--- sum does not overflow.
+-- The first `N` bytes and the rest in the last `N` are all bytes. No class of `CountsOne` has a
+-- lead byte of four. So a byte weighs at most two, and the sum does not overflow.
 use Rattle.std.proofs.Common.{arith}
 use Rattle.std.proofs.lemmas.Grind.{common_steps}
 use Rattle.std.proofs.lemmas.List.Sums.{sum_by-take-drop}

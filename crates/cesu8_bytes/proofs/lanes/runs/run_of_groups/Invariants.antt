@@ -1,4 +1,4 @@
--- No byte of the run is in the class. The run is empty or has at least one group.
+-- No byte of the run is in the class. The run is empty or has at least one group, of 256 bytes.
 use Rattle.std.proofs.Common.{◌≡◌, ℕ, ◌-◌, ◌<◌, ◌≤◌, false, length, get_or}
 use Rattle.cesu8_bytes.proofs.lanes.runs.run_of_groups.Given as goal
 

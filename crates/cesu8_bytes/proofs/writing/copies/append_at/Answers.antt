@@ -1,4 +1,5 @@
--- Truncating to an index and appending the bytes from there on again appends them once.
+-- Of the bytes that were appended, those from `at` on are cut off, and then `N` bytes from `at` on
+-- are appended. So the bytes up to `at + N` are there once (`appended_again`).
 use Rattle.cesu8_bytes.proofs.lists.Stored.{appended_again}
 use Rattle.cesu8_bytes.proofs.writing.copies.append_at.Goals as goal
 

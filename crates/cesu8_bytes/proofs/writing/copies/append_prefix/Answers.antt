@@ -1,4 +1,5 @@
--- The vector appends the first 64 bytes, and truncating keeps the first `len` of them.
+-- If `len` is at most 64, the vector appends the first 64 bytes, and truncating keeps the first
+-- `len` of them.
 use Rattle.std.proofs.Common.{◌≡◌, ◌+◌, ◌++◌, ◌∙◌, ap, arith, length, take, append-nil, sym, rules}
 use Rattle.std.proofs.Math.Seq.{take-append-add}
 use Rattle.std.proofs.lemmas.List.{take-take, length-take-le}

@@ -1,4 +1,4 @@
--- Lanes 8 to 15 of the vector are its upper half.
+-- The result is the upper half of the vector, lanes 8 to 15, twice.
 use Rattle.std.proofs.Common.{arith, ◌++◌}
 use Rattle.cesu8_bytes.proofs.vectors.Rows.{lanes_of_first}
 use Rattle.cesu8_bytes.proofs.writing.packing.second_of.Goals as goal

@@ -1,4 +1,4 @@
--- If the bytes do not fit, nothing has been written, and the error has their number.
+-- If the bytes do not fit, nothing has been written, and the error says how many they are.
 use Rattle.std.proofs.Common.{refl, rules}
 use Rattle.cesu8_decode.proofs.destinations.slices.copy_by_call.Goals as goal
 

@@ -1,4 +1,5 @@
--- A surrogate pair that begins where the pass stands takes it six bytes further.
+-- A surrogate pair that begins where the pass stands takes it six bytes further, and four bytes are
+-- written. The pair begins before `last`, so at most `limit` bytes were written before it (`room`).
 use Rattle.std.proofs.Common.{◌≤◌, refl, arith, length-drop}
 use Rattle.std.proofs.Math.Nat.{mul-div-le}
 use Rattle.std.proofs.lemmas.List.{take_rest}

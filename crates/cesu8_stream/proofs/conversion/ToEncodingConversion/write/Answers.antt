@@ -1,5 +1,5 @@
--- If the bytes are UTF-8, their characters are the only text that they can be. Then `write` fails
--- only if the encoding of that text does not fit the buffer.
+-- If the bytes are UTF-8, they are the UTF-8 of their characters and of no other text. Then `write`
+-- fails only if the encoding of that text does not fit the buffer.
 use Rattle.std.proofs.Common.{◌≡◌, length, inl, inr}
 use Rattle.std.proofs.lemmas.Bool.{cases_lt}
 use Rattle.std.specs.Str.{chars}

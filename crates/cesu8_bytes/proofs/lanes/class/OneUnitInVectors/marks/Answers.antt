@@ -1,4 +1,5 @@
--- Three comparisons mark the bytes below 80 and those from C0 up to below F0 (hexadecimal).
+-- Three comparisons mark the bytes below 80 and those from C0 up to below F0 (hexadecimal), with
+-- which the characters of one UTF-16 code unit begin.
 use Rattle.cesu8_bytes.proofs.lists.Classes.{range_marks}
 use Rattle.cesu8_bytes.proofs.lanes.class.OneUnitInVectors.marks.Goals as goal
 
