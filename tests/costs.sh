@@ -120,8 +120,8 @@ cost_of_workloads() {
 written() {
     cat <<WORDS
 # What calls and workloads cost, as tests/costs.sh counts it: a name, a processor level and a cost.
-# A cost is a number of instructions, and 15 for each branch that callgrind sees guessed wrong,
-# without requests for memory and copies.
+# A cost is a number of instructions, plus 15 for each branch that callgrind sees mispredicted,
+# without allocations and copies.
 # - workload/NAME: $rounds rounds of a workload of workloads.txt, in thousands
 # - CALL/INPUT/BYTES: one call on an input of a kind in tests/costs.c that has so many bytes
 # tests/costs.sh --write writes the lines. One may rise only in a commit that says why.
