@@ -1,5 +1,6 @@
 -- The weights of the first vectors, of 64 bytes each, and of the next one are together those of one
--- vector more. A byte weighs at most two, so the sums do not overflow.
+-- vector more. No class of `CountsOne` has a lead byte of four. So a byte weighs at most two, and the
+-- sums do not overflow.
 use Rattle.std.proofs.Common.{◌+◌, ◌*◌, arith}
 use Rattle.std.proofs.lemmas.Grind.{common_steps}
 use Rattle.std.proofs.lemmas.List.Sums.{sum_by-take-drop, sum_by-take-le}
