@@ -75,8 +75,8 @@ fn prefix_of_more<F: Flavor>(bytes: &[u8]) -> UnchangedPrefix
 }
 
 /// Returns the length of the longest prefix of whole characters of a set. The input has more than
-/// 64 bytes.
-#[inline(always)]
+/// 64 bytes. It is not inlined, since it is long.
+#[inline(never)]
 pub fn longest_prefix<F: Flavor, S: CharacterSet>(bytes: &[u8]) -> usize
     requires { LANES < length bytes.now }
     ensures { IsLongestPrefix S.set F.flavor bytes.now result }
@@ -86,8 +86,8 @@ pub fn longest_prefix<F: Flavor, S: CharacterSet>(bytes: &[u8]) -> usize
 
 /// Returns the offset of the first byte that cannot follow the bytes before it, or the length if
 /// there is none. The input has more than 64 bytes. It first skips whole groups of unchanged ASCII,
-/// or else tests one block. It is not inlined, since it is long.
-#[inline(never)]
+/// or else tests one block.
+#[inline(always)]
 fn following_many<F: Flavor, S: CharacterSet>(bytes: &[u8]) -> usize
     requires { LANES < length bytes.now }
     ensures { FollowUpTo S.set F.flavor bytes.now result }
