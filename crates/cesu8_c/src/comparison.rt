@@ -6,7 +6,8 @@ ghost use Rattle.cesu8_c.specs.Answers.{number_of};
 use crate::answer::{NOT_UTF8, OK};
 use std::cmp::Ordering;
 
-/// How two texts compare.
+/// How two texts compare by their UTF-16 code units: the result of `cesu8_compare_as_utf16`. The C
+/// header has a struct with these fields.
 #[repr(C)]
 #[derive(Drop)]
 pub struct Comparison {

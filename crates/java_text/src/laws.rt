@@ -1,5 +1,6 @@
-//! The laws of the form. Each function does nothing: its contract is the law, for every text and
-//! every list of bytes. A function that calls another law uses it in its proof.
+//! The laws of the form of a text, its MUTF-8 after a count of two bytes (`lib.rt`). Each function
+//! does nothing: its contract is the law, for every text and every list of bytes. A function that
+//! calls another law uses it in its proof.
 
 ghost use Rattle.java_text.specs.Laws.{
   FormIsCut,

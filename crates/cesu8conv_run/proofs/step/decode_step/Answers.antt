@@ -1,4 +1,6 @@
--- A call of `cesu8_stream` is a step of the conversion. A character has at most 4 bytes in UTF-8.
+-- A call of `cesu8_stream` is a step of the conversion. The 4 is the most bytes of a character in
+-- UTF-8, which the contract of `decode` names. For `Decode`, the text, the bytes written and the
+-- damage are those of that contract by definition.
 use Rattle.std.proofs.Common.{refl}
 use Rattle.simd_cesu8.specs.Text.{utf8}
 use Rattle.simd_cesu8.specs.Encoding.{encoding}

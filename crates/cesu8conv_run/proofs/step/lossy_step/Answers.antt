@@ -1,5 +1,6 @@
--- Each conversion of `Decode` is also one of `Lossy`. If the strict step stopped at the first byte,
--- this byte is damaged, and U+FFFD is its lossy conversion (`replace`).
+-- Each conversion of `Decode` is also one of `Lossy`: by the law `around`, the lossy reading of an
+-- encoded text and more bytes is that text and the reading of these. If the strict step stopped at
+-- the first byte, this byte is damaged, and its lossy conversion is U+FFFD, by the law `places`.
 use Rattle.cesu8conv_run.proofs.Steps.{replaced-step, lossy-of-decoded, lossy-replaces}
 use Rattle.cesu8conv_run.specs.declared.conversion.Conversion.TheVariants.{Decode, Lossy}
 use Rattle.cesu8conv_run.proofs.step.lossy_step.Goals as goal

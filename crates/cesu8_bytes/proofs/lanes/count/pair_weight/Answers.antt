@@ -1,5 +1,5 @@
 -- The first `N` bytes and the rest in the last `N` are all bytes. No class of `CountsOne` has a
--- lead byte of four. So a byte weighs at most two, and the sum does not overflow.
+-- lead byte of four. So a byte weighs at most two, and the sum for at most 64 bytes fits `usize`.
 use Rattle.std.proofs.Common.{arith}
 use Rattle.std.proofs.lemmas.Grind.{common_steps}
 use Rattle.std.proofs.lemmas.List.Sums.{sum_by-take-drop}

@@ -1,5 +1,6 @@
 -- `source` is the bytes with zeros after them. So the window that is computed from the bytes is
--- also a window of `source`, and its text is that of the bytes.
+-- also a window of `source`, and its text is that of the bytes. It begins at offset 0, which is a
+-- boundary, since `window_of` puts five zeros before the bytes.
 use Rattle.std.proofs.Common.{arith}
 use Rattle.cesu8_decode.proofs.by_offset.CharacterBoundaries.{boundary_of_zeros}
 use Rattle.cesu8_decode.proofs.decoder.WindowReturns.{padded_window, text_of_padded_lossily}

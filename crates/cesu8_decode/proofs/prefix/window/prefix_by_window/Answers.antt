@@ -1,5 +1,7 @@
 -- The unchanged prefix ends at the first event, which is the lowest bit of the three masks
--- together. If no byte is ill-formed, the other two masks mark the characters that need conversion.
+-- together. If no byte is ill-formed, the other two masks mark the characters that need conversion,
+-- and there is one unless the prefix is all bytes. If a byte is ill-formed, `changed` is 0, so
+-- `changes` says nothing, and the bytes have no strict reading (`none`).
 use Rattle.std.proofs.Common.{refl, arith, le_trans}
 use Rattle.cesu8_decode.proofs.chunks.MaskPrefixes.{unchanged_by_masks, changes_by_masks, none_by_mask, some_change}
 use Rattle.cesu8_decode.proofs.prefix.window.prefix_by_window.Goals as goal
