@@ -32,7 +32,8 @@ pub fn convert<C: Conversion>(bytes: &[u8], buf: &mut [u8]) -> Progress
     }
 }
 
-/// Converts as much of the input as fits in the buffer, without `convert_window` first.
+/// Converts as much of the input as fits in the buffer, without `convert_window` first. `lossy`
+/// calls it for what follows a damaged byte.
 pub fn convert_rest<C: Conversion>(bytes: &[u8], buf: &mut [u8]) -> Progress
     ensures { ConvertsPiece C.from C.to C.widest bytes.now result buf.old buf.new }
 {
@@ -56,8 +57,8 @@ pub fn convert_rest<C: Conversion>(bytes: &[u8], buf: &mut [u8]) -> Progress
 }
 
 /// Converts the whole characters of the input, up to as many bytes as the buffer has. It converts
-/// nothing if one of these bytes is ill-formed or the output does not fit: then the caller converts
-/// them in another way.
+/// nothing if one of these bytes is ill-formed or the output does not fit: then `convert` converts
+/// them by `convert_rest`, and `lossy_windows` by its own windows.
 pub fn convert_window<C: Conversion>(bytes: &[u8], buf: &mut [u8]) -> Moved
     ensures moves { Converts C.from C.to bytes.now result.read result.written buf.old buf.new }
     ensures within { result.read ≤ length bytes.now }

@@ -13,7 +13,7 @@ use crate::lossy::decode_lossy;
 use crate::progress::Progress;
 
 /// Decodes a piece of MUTF-8 (Java's `DataInput`) strictly, and writes the UTF-8 of its text to the
-/// caller's buffer, as much as fits.
+/// caller's buffer, as much as fits. Neither a raw byte 00 nor four-byte UTF-8 is MUTF-8.
 ///
 /// The state is `Malformed` if the bytes from `read` on begin with no encoded character, whatever
 /// follows them. Only the caller knows whether more bytes follow: if none do, `Incomplete` means
@@ -36,7 +36,8 @@ pub fn decode_strict(bytes: &[u8], buf: &mut [u8]) -> Progress
 }
 
 /// Decodes a piece of MUTF-8 (Java's `DataInput`) that may be damaged, and writes to the caller's
-/// buffer, as much as fits: the UTF-8 of each encoded character, and U+FFFD for each byte in none.
+/// buffer, as much as fits: the UTF-8 of each encoded character, and U+FFFD for each byte in none,
+/// also for a raw byte 00 and for each byte of four-byte UTF-8.
 ///
 /// `is_last` says that no more bytes follow. Otherwise a part of a character at the end is left for
 /// the next piece: the state is then `Incomplete`. It is never `Malformed`. With a buffer of at

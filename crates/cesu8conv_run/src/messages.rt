@@ -38,7 +38,7 @@ pub fn explain(
                 let _ = say_damage(rt, conversion, input, *offset, ahead);
                 let right = output.written;
                 // Instead of a regular file only a draft was written, and `give_up` prints that the
-                // file is not written.
+                // file is not written. For a device that `--output` names, nothing is printed.
                 if options.output.is_none() {
                     let _ = eprintln!(rt; "cesu8conv: {right} bytes of output are right");
                 }

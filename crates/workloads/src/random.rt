@@ -1,4 +1,5 @@
-//! Random numbers from a seed.
+//! Random numbers from a seed. With other numbers from a seed, the workloads have other inputs, and
+//! the lines of bench/costs.txt change.
 
 ghost use Rattle.std.specs.Prelude.{◌<◌, ◌≤◌};
 
