@@ -1,5 +1,6 @@
 # The release that release/dist.sh makes, for the scripts that use it. A script sources this file
-# after tests/lib.sh.
+# after tests/lib.sh. It ends with status 1 if something is wrong with the release, and with 2 if the
+# script cannot test it.
 # shellcheck shell=bash disable=SC2034,SC2154
 
 version=$(<"$top/VERSION")
@@ -9,7 +10,7 @@ cross_name=cesu8-$version-aarch64-linux
 
 # Sets `release`, the folder that dist.sh has filled, `unpacked`, the folder that its archive holds,
 # and `seconds`, the time of its commit. If RELEASE is not set, it runs dist.sh. If a tool that this
-# needs is missing, WHAT is skipped: `find_release WHAT`.
+# needs is missing, it says that WHAT is skipped, and fails: `find_release WHAT`.
 find_release() {
     local tool
     release=${RELEASE-}
@@ -32,7 +33,7 @@ find_release() {
 }
 
 # Makes the script build for aarch64 from here on, and run what it builds in an emulator. If a tool
-# for that is missing, WHAT is skipped: `for_aarch64 WHAT`.
+# for that is missing, it says that WHAT is skipped, and fails: `for_aarch64 WHAT`.
 for_aarch64() {
     local missing
     # shellcheck source=tests/cross.sh
@@ -47,6 +48,6 @@ for_aarch64() {
     fi
     c_compiler=$AARCH64_CC
     cpp_compiler=$AARCH64_CXX
-    # The C library for aarch64 is in the folder lib of this one.
+    # The emulator looks for the C library in the folder lib of this folder.
     emulator=("$AARCH64_EMULATOR" -L "$(dirname "$("$AARCH64_CC" -print-file-name=libc.so.6)")/..")
 }

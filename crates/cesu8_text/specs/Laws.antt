@@ -1,4 +1,5 @@
--- The laws of both encodings. They speak of the definitions only, and not of the code.
+-- The laws of both encodings. They speak of the definitions only, and not of the code. They are the
+-- contracts of functions of `simd_cesu8::laws`, which callers use in their proofs.
 use Rattle.std.specs.Prelude.{◌≡◌, ℕ, ◌+◌, ◌*◌, ◌<◌, ◌≤◌, ◌≢◌, ◌⊎◌, ◌↔◌, List, [], ◌∷◌, ◌++◌, length, All}
 use Rattle.std.specs.Ordering.{MatchOrdering, nat_cmp}
 use Rattle.std.specs.Cmp.Lexicographic.{slice_cmp}
@@ -58,7 +59,7 @@ EncodedBack = (f : Flavor) (bytes string back : List ℕ) →
 abbrev pub Concat : Type 0
 Concat = (f : Flavor) (s t : List ℕ) → encoding f (s ++ t) ≡ encoding f s ++ encoding f t
 
--- Bytes that are both UTF-8 and an encoding decode to the same text as either.
+-- Bytes that are both UTF-8 and an encoding have the same text in both.
 abbrev pub SameText : Type 0
 SameText = (f : Flavor) (bytes text other : List ℕ) → IsUtf8Of text bytes → IsStrictReading f bytes other → text ≡ other
 
@@ -85,16 +86,16 @@ NoZero = (text : List ℕ) → IsText text →
 abbrev pub EncodingBound : Type 0
 EncodingBound = (f : Flavor) (text : List ℕ) → IsText text → length (encoding f text) ≤ 2 * length (utf8 text)
 
--- A strict reading is at most as long as the input.
+-- The UTF-8 of a strict reading is at most as long as the input.
 abbrev pub StrictBound : Type 0
 StrictBound = (f : Flavor) (bytes text : List ℕ) → IsStrictReading f bytes text → length (utf8 text) ≤ length bytes
 
--- The text of any cutting, greedy or not, is at most three times as long as the input.
+-- The UTF-8 of the text of any cutting, greedy or not, is at most three times as long as the input.
 abbrev pub CuttingBound : Type 0
 CuttingBound = (f : Flavor) (bytes : List ℕ) (pieces : List Piece) → IsCutting f bytes pieces →
     length (utf8 (text_of pieces)) ≤ 3 * length bytes
 
--- The lossy reading is at most three times as long as the input.
+-- The UTF-8 of the lossy reading is at most three times as long as the input.
 abbrev pub LossyBound : Type 0
 LossyBound = (f : Flavor) (bytes : List ℕ) → length (utf8 (reading f bytes)) ≤ 3 * length bytes
 
@@ -117,7 +118,7 @@ abbrev pub Places : Type 0
 Places = (f : Flavor) (bytes : List ℕ) (pieces : List Piece) → IsCutting f bytes pieces → IsGreedy f pieces →
     text_of pieces ≡ reading f bytes
 
--- All bytes have a greedy cutting.
+-- Any list of bytes has a greedy cutting.
 abbrev pub HasGreedyCutting : Type 0
 HasGreedyCutting = (f : Flavor) (bytes : List ℕ) →
     (pieces : List Piece) × IsCutting f bytes pieces × IsGreedy f pieces

@@ -1,6 +1,9 @@
 -- The conversion of a whole stream, one piece after the other. `r0`, `r1` and `r2` are what the
 -- reader has left, and `w0`, `w1` and `w2` what the writer holds, at successive points. They are
--- `None` if that is not known.
+-- `None` if that is not known. `taken` is the input that was converted so far. `ahead` and `piece`
+-- are the bytes in the window that are not converted yet, of which there are `unread`. That the
+-- encoding of a concatenation is the concatenation of the encodings (`Concat`) is a premise, which
+-- the caller has from a law of `simd_cesu8`.
 use Rattle.std.proofs.Common.{◌≡◌, ℕ, ◌+◌, ◌-◌, ◌≤◌, Bool, true, false, List, [], ◌++◌, length, take, drop, refl, sym, ap, ◌∙◌, append_assoc, arith, length-drop, length-append, Some, None}
 use Rattle.std.specs.Prelude.{Option, IfSome}
 use Rattle.std.specs.List.{copy_within}
@@ -14,7 +17,8 @@ use Rattle.cesu8conv_run.specs.Stream.{WritesOutput, StopsAt, WritesSome, IsSoFa
 use Rattle.cesu8conv_run.proofs.Joined.{converts-append, converts-nil, converts-read, output-of-all, output-to-damage}
 use Rattle.cesu8conv_run.specs.declared.conversion.Conversion.{Conversion}
 
--- What was written, the next n bytes, and those after them are the whole.
+-- If the whole is what was written and a rest, it is also what was written, the next n bytes of the
+-- rest, and the bytes after these.
 pub whole-after : (whole written rest : List ℕ) (n : ℕ) → whole ≡ written ++ rest →
     whole ≡ (written ++ take n rest) ++ take (length rest - n) (drop n rest)
 whole-after whole written rest n e =
@@ -48,12 +52,13 @@ read-so-far c is_last r0 r1 r2 w0 w1 old new unread end offset k none h = record
   appended = h.appended;
 }
 
--- The input up to an offset of a piece, and from there on.
+-- The input that was read consists of the bytes up to an offset of the piece, and those from there
+-- on.
 consumes-split : (r0 r1 : Option (List ℕ)) (taken piece : List ℕ) (read : ℕ) → Consumes r0 r1 (taken ++ piece) →
     Consumes r0 r1 ((taken ++ take read piece) ++ drop read piece)
 consumes-split r0 r1 taken piece read h = rw (append_assoc taken (take read piece) (drop read piece), take-append-drop read piece) h
 
--- What was converted, and then a part of the piece that is ahead.
+-- If a part of the piece is converted after what was converted so far, both are converted together.
 piece-joined : Concat → (c : Conversion) (is_last : Bool) (taken piece output x : List ℕ) (read : ℕ) →
     Converts c is_last taken piece output → Converts c is_last (take read piece) (drop read piece) x →
     Converts c is_last (taken ++ take read piece) (drop read piece) (output ++ x)
@@ -61,7 +66,7 @@ piece-joined concat c is_last taken piece output x read before h =
     converts-append concat c is_last taken (take read piece) (drop read piece) output x
     (rw (take-append-drop read piece) before) h
 
--- What was taken so far, and then `read` bytes of the piece that is ahead.
+-- After a step that takes `read` bytes of the piece, these are taken too.
 pub piece-so-far : Concat → (c : Conversion) (is_last : Bool) (r0 r1 w0 w1 w2 : Option (List ℕ)) (piece : List ℕ) (offset read : ℕ) →
     TakesPiece c piece is_last read w1 w2 → IsSoFar c is_last r0 r1 w0 w1 piece offset →
     IsSoFar c is_last r0 r1 w0 w2 (drop read piece) (offset + read)
@@ -76,7 +81,7 @@ piece-so-far concat c is_last r0 r1 w0 w1 w2 piece offset read k h = record {
   appended = Appends-trans w0 w1 w2 h.output k.output h.appended k.appended;
 }
 
--- What is known to follow: the rest of the input, and at its end nothing.
+-- What was converted with `ahead` known to follow is also right with all of the rest known.
 converts-known : (c : Conversion) (is_last : Bool) (a ahead rest x : List ℕ) → (is_last ≡ true → rest ≡ []) →
     Converts c is_last a ahead x → Converts c true a (ahead ++ rest) x
 converts-known c true a ahead rest x ends h = rw (ends refl, append-nil ahead) h
@@ -149,7 +154,7 @@ damage-so-far c is_last (Some bytes) (Some more) w0 w1 ahead offset damage h =
       damage = rw (is, drop_at h.taken rest offset h.counted) (damage more (may-follow is_last more h.ends));
     }
 
--- The unread bytes of a window, moved to its front.
+-- If the unread bytes of a window are moved to its front, its first bytes are these.
 pub moved-front : (window new : List ℕ) (read end : ℕ) → new ≡ copy_within window read end 0 → read ≤ end → end ≤ length window →
     take (end - read) new ≡ drop read (take end window)
 moved-front window new read end moved within fits =

@@ -1,5 +1,5 @@
--- The laws of the form, in terms of the definitions alone. They are the contracts of the functions
--- of src/laws.rt, which callers use in their proofs.
+-- The laws of the form of a text, its MUTF-8 after a count of two bytes, in terms of the definitions
+-- alone. They are the contracts of the functions of src/laws.rt, which callers use in their proofs.
 use Rattle.std.specs.Prelude.{◌≡◌, ℕ, ◌+◌, ◌<◌, ◌≤◌, ◌↔◌, List, [], ◌∷◌, ◌++◌, length, slice_index}
 use Rattle.std.specs.List.{flat_map}
 use Rattle.simd_cesu8.specs.Text.{IsText}
@@ -7,8 +7,8 @@ use Rattle.simd_cesu8.specs.Encoding.{Mutf8}
 use Rattle.simd_cesu8.specs.Reading.{IsStrictReading}
 use Rattle.java_text.specs.Form.{HasForm, java_form, mutf8_len, BeginsWithForm, BeginsOnlyWithForm, NoFormBegins, count_in, counted, rest_in, IsTruncated}
 
--- Bytes that begin with a form are not truncated. They count the bytes of the text's MUTF-8, the
--- counted bytes are this MUTF-8, and the rest follows it.
+-- Bytes that begin with a form are not truncated. Their first two bytes are the length of the text's
+-- MUTF-8, so many bytes after these are this MUTF-8, and the rest follows it.
 abbrev pub FormIsCut : Type 0
 FormIsCut = (bytes text rest : List ℕ) → BeginsWithForm bytes text rest →
     (¬ (IsTruncated bytes)) × (count_in bytes ≡ mutf8_len text)
@@ -24,7 +24,7 @@ PartsAreForm = (bytes text : List ℕ) → ((i : ℕ) → slice_index bytes i < 
 abbrev pub OneForm : Type 0
 OneForm = (bytes text rest : List ℕ) → BeginsWithForm bytes text rest → BeginsOnlyWithForm bytes text rest
 
--- No form is a proper prefix of another: if one begins another, they are equal.
+-- No form is a proper prefix of another: if one is a prefix of another, they are equal.
 abbrev pub NoFormBeginsAnother : Type 0
 NoFormBeginsAnother = (text other rest : List ℕ) → IsText text → HasForm text → IsText other → HasForm other →
     java_form text ≡ java_form other ++ rest → (text ≡ other) × (rest ≡ [])

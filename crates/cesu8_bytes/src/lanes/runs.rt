@@ -17,7 +17,8 @@ pub fn lanes_before<C: InVectors<N>, const N: usize>(lanes: Simd<u8, N>) -> usiz
     first_bit::<N>(bits::<C, N>(lanes))
 }
 
-/// Returns the index of the first of `N` bits that is set, or `N` if none is.
+/// Returns the index of the first bit that is set, or `N` if none is. A mask of `N` lanes has no bit
+/// from `N` on.
 #[inline(always)]
 pub(crate) fn first_bit<const N: usize>(marks: u64) -> usize
     requires { N ≤ LANES }
@@ -30,12 +31,12 @@ pub(crate) fn first_bit<const N: usize>(marks: u64) -> usize
     }
 }
 
-/// How many bytes are tested at once if a byte of the class is unlikely.
+/// How many bytes are tested at once after the first 64 bytes have no byte of the class.
 const GROUP: usize = 4 * LANES;
 
 /// Returns the length of a prefix without a byte of the class, in whole groups of 256 bytes. It may
-/// stop at a group that has none, since the test of a group can have false positives. If the first
-/// 64 bytes have one, as is common, no more are tested.
+/// stop at a group that has none, since the test of a group can have false positives. If one of the
+/// first 64 bytes is in the class, no more are tested.
 #[inline(always)]
 pub fn run_of_groups<C: InGroups>(bytes: &[u8]) -> usize
     ensures within { (result ≤ length bytes.now) × (0 < result → GROUP ≤ result) }

@@ -1,5 +1,7 @@
 -- What is written for each byte, by the bytes around it, is together the UTF-8 of their lossy
--- reading: for all bytes, and for the bytes of a window between two boundaries.
+-- reading: for all bytes, and for the bytes of a window between two boundaries. A window here is any
+-- list that has five bytes before the first one that is decoded. The width at an offset is the length
+-- of the encoded character that begins there, or 0 if none begins there.
 use Rattle.std.proofs.Common.{◌≡◌, ℕ, ◌+◌, ◌*◌, ◌/◌, ◌%◌, ◌<◌, ◌≤◌, eqb, leb, List, [], ◌∷◌, ◌++◌, refl, sym, ap, ◌∙◌, ⊎_elim, arith, true, length, take, drop, get_or, length-drop, zero-add, add-zero, subst}
 use Rattle.std.proofs.lemmas.Bool.{ne_eqb, lt-leb}
 use Rattle.cesu8_text.specs.Text.{IsScalarValue, utf8_of, utf8}
@@ -64,11 +66,12 @@ after_ended f bytes w1 w2 w3 w4 w5 p q h1 h2 h3 h4 h5 =
 
 -- ---- what the bytes of a character become
 
--- What is written for the bytes after no character, for any two bytes before.
+-- The text is what is written for the bytes if no character begins at the five offsets before them,
+-- whatever the two bytes before them are.
 abbrev Become : Flavor → List ℕ → List ℕ → Type 0
 Become f bytes text = (p q : ℕ) → decoded_after f 0 0 0 0 0 p q bytes ≡ text
 
--- What bytes `Become` is also what is written for them after characters that have ended.
+-- If bytes `Become` a text, it is also written for them after characters that end before them.
 continued : (f : Flavor) (rest text : List ℕ) (w1 w2 w3 p q : ℕ) → Become f rest text → w1 ≤ 1 → w2 ≤ 2 → w3 ≤ 3 →
     decoded_after f w1 w2 w3 0 0 p q rest ≡ text
 continued f rest text w1 w2 w3 p q become h1 h2 h3 =
@@ -111,6 +114,8 @@ null_read f c rest text scalar same become p q =
     let widths = encoded_widths f c 0xC0 (0x80 ∷ []) rest scalar same in
     rw (widths.0, widths.1 1 (omega arith) (omega arith), continued f rest text 0 2 0 0xC0 0x80 become (omega arith) (omega arith) (omega arith)) refl
 
+-- The digits w, x, y and z are the bits of the two surrogates. The first one holds the scalar value
+-- less 0x10000, so its text has w + 1.
 pair_read : (f : Flavor) (c w x y z : ℕ) (rest text : List ℕ) → IsScalarValue c → IsPair c w x y z → Become f rest text →
     Become f (0xED ∷ (0xA0 + w) ∷ (0x80 + x) ∷ 0xED ∷ (0xB0 + y) ∷ (0x80 + z) ∷ rest)
     ((0xF0 + (w + 1) / 4) ∷ (0x80 + ((w + 1) % 4 * 0x10 + x / 4)) ∷ (0x80 + (x % 4 * 0x10 + y)) ∷ (0x80 + z) ∷ text)
@@ -140,7 +145,7 @@ pair_read f c w x y z rest text scalar digits become p q =
       become g h,
     ) refl
 
--- ---- by characters and replaced bytes, from the first one on
+-- ---- one character or replaced byte, and then the others by induction
 
 character_read : (f : Flavor) (c : ℕ) (rest text : List ℕ) → IsScalarValue c → Shape c → Become f rest text →
     Become f (encoding f (c ∷ []) ++ rest) (utf8_of c ++ text)
@@ -216,6 +221,6 @@ decoded_between f window bytes n follows fits first boundary =
     ∙ ap utf8 ((split f prefix back).1 (none_crosses_boundary f window bytes n follows fits boundary))
     ∙ utf8_append (reading f prefix) (reading f back))
 
--- A window on all of the bytes: five zeros, the bytes, and zeros.
+-- A window that has all of the bytes: five zeros, the bytes, and zeros.
 abbrev pub IsPadded : List ℕ → List ℕ → Type 0
 IsPadded bytes window = (k : ℕ) → slice_index window k ≡ slice_index (0 ∷ 0 ∷ 0 ∷ 0 ∷ 0 ∷ bytes) k

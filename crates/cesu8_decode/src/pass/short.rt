@@ -2,7 +2,7 @@
 //!
 //! If no byte is ill-formed, the test for the unchanged prefix has found the characters that need
 //! conversion, and the window follows from them. Otherwise strict decoding returns an error, and
-//! lossy decoding computes the window again.
+//! lossy decoding computes the window from the bytes.
 
 ghost use Rattle.std.specs.Prelude.{◌≡◌, ℕ, ◌≤◌, length, slice_index, take};
 ghost use Rattle.cesu8_bytes.specs.declared.strictness.Strictness.{Strictness as AnyStrictness};
@@ -35,7 +35,8 @@ const SOURCE: usize = LANES + LANES;
 
 /// Writes the decoded text of at most 64 bytes and returns its length, or returns an error if
 /// decoding is strict and a byte is ill-formed. `prefix` is their unchanged prefix, which is not
-/// all of them. So its mask `changed` is 0 exactly if a byte is ill-formed.
+/// all of them. Its mask `changed` is 0 if a byte is ill-formed. Otherwise the prefix ends at a
+/// character that needs conversion, so the mask is not 0.
 #[inline(always)]
 #[tactic(auto, using(crate::proofs::decoder::Passes::reads_text))]
 pub fn write_short<F: Flavor, S: Reading>(
@@ -69,7 +70,8 @@ fn write_well_formed<F: Flavor>(bytes: &[u8], changed: u64, out: &mut [u8]) -> u
     ensures { (which : AnyStrictness)
         → WritesText F.flavor which bytes.now result out.old out.new }
 {
-    // Up to 32 bytes take half as many loads and stores, unless shuffles pack many C0 80.
+    // Up to 32 bytes take half as many loads and stores. If there are many C0 80, vectors for 64
+    // bytes are faster even so, since `write_well_formed_events` packs C0 80 by shuffles.
     if is_one_block(bytes) && !(F::has_long_null() && changed.count_ones() >= MANY_NULLS) {
         let mut source = [0; BLOCK + BLOCK];
         load(bytes, &mut source);

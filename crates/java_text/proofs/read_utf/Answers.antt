@@ -1,5 +1,8 @@
--- `split_counted` splits off the counted bytes, and `decode_strict_front` promises each clause for
--- them. The counted bytes are a part of the input, so the clauses hold for the input.
+-- `split_counted` splits off the counted bytes, or says that the input ends before their end. Then no
+-- string begins the input (`none_begins_truncated`). Otherwise `decode_strict_front`, a faster
+-- `decode_strict` for the first bytes of a slice, promises each clause for the counted bytes. If it
+-- rejects them, no string begins the input either, since the count allows no other bytes. What it
+-- borrows from the counted bytes is borrowed from the input, which they are a part of.
 use Rattle.std.proofs.Common.{ℕ, List, rules}
 use Rattle.simd_cesu8.specs.Encoding.{Mutf8}
 use Rattle.simd_cesu8.specs.Fault as decoding

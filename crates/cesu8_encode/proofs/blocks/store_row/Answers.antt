@@ -1,4 +1,6 @@
--- The indices of a shuffle are valid, and the packed content of the row follows what preceded it.
+-- A row is eight bytes of a block. Bit i of `doubled` says that byte i becomes two bytes, and the
+-- shuffle of that mask packs them. Its indices are valid, and it stores the packed bytes after the
+-- first `at` bytes of the output.
 use Rattle.std.proofs.Common.{arith}
 use Rattle.cesu8_encode.proofs.encoder.EncodedRows.{shuffle_ok, stored_row}
 use Rattle.cesu8_encode.proofs.blocks.store_row.Goals as goal

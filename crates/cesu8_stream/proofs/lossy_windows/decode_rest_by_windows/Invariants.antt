@@ -1,5 +1,5 @@
--- The lossy reading of the windows read so far is at the start of the buffer. An iteration that
--- reads nothing is the last one.
+-- The lossy reading of the windows read so far is at the start of the buffer (`ReadsOn`, whose
+-- `false` says that more input may follow). An iteration that reads nothing is the last one.
 use Rattle.std.proofs.Common.{◌≤◌, ◌-◌, false, length}
 use Rattle.cesu8_stream.specs.Lossy.{ReadsOn}
 use Rattle.cesu8_stream.proofs.lossy_windows.decode_rest_by_windows.Given as goal

@@ -1,5 +1,6 @@
--- The fast path copies ASCII that is unchanged, which is its own strict reading. Otherwise the call
--- decodes the first bytes to the buffer, which the fast path left unchanged.
+-- Only the first `len` bytes count, or all bytes if there are fewer. If they are ASCII that is the
+-- same in UTF-8, the fast path has copied them, and they are their own strict reading. Otherwise it
+-- wrote nothing, and the call decodes them to the buffer.
 use Rattle.std.proofs.Common.{ℕ, ◌^◌, ◌<◌, ◌≤◌, List, Ok, length, take, arith}
 use Rattle.std.specs.Str.{chars}
 use Rattle.std.proofs.lemmas.List.{take_min}
@@ -12,8 +13,8 @@ use Rattle.cesu8_bytes.specs.declared.strictness.Strictness.TheVariants.{Strict}
 use Rattle.cesu8_decode.proofs.chunks.SliceReadings.{answer_put, only_kept}
 use Rattle.simd_cesu8.proofs.front_to_slice.decode_strict_front_to_slice.Goals as goal
 
--- Copying unchanged bytes to the start of the buffer writes their strict reading, since they are
--- its UTF-8.
+-- Copying unchanged bytes to the start of the buffer writes their strict reading: they are its UTF-8,
+-- and no other text has them as its encoding (`encoding_texts`).
 unchanged_written : (f : Flavor) (bytes : List ℕ) (len : ℕ) (old new : List ℕ) → IsUnchangedUtf8 f bytes → length bytes < 2 ^ 64 →
     length bytes ≤ length old → StandsAtFront bytes len old new → WritesReading (IsStrictReading f bytes) (Ok len) old new
 unchanged_written f bytes len old new unchanged small room stands =

@@ -1,5 +1,5 @@
--- Encoded text at the start is read before all else (`reading_text`). Encoded text at the end is
--- read after all else, since by `middle` no character reaches into it.
+-- The lemma `around` of `cesu8_text` is the law: encoded text before and after some bytes does not
+-- change their lossy reading. No character reaches from these bytes into the encoding after them.
 use Rattle.cesu8_text.proofs.reading.EncodedTexts.{around}
 use Rattle.simd_cesu8.proofs.laws.around.Goals as goal
 

@@ -1,4 +1,5 @@
--- After `i` vectors, each lane has counted `i` bytes, and the lanes sum to the count so far.
+-- After `i` vectors of a block (`BYTES_IN_LANES` bytes), each lane holds at most `i`, so it cannot
+-- overflow, and the lanes sum to the count so far.
 use Rattle.cesu8_text.specs.Class.{is_four}
 use Rattle.cesu8_bytes.proofs.vectors.Counts.{HaveCounted}
 use Rattle.cesu8_bytes.proofs.lanes.count.block_weight.Given as goal

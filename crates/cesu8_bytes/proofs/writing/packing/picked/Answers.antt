@@ -1,4 +1,6 @@
--- The lower half of each of the row's numbers is below 16, as the shuffle requires.
+-- Each of the row's numbers is a byte, of which the shuffle uses the lower four bits. These are below
+-- 16, as it requires (`low_ok`), and the lanes that they select are what `lanes_at` gives
+-- (`low_picked`).
 use Rattle.cesu8_bytes.proofs.vectors.Packing.{low_ok, low_picked}
 use Rattle.cesu8_bytes.proofs.writing.packing.picked.Goals as goal
 

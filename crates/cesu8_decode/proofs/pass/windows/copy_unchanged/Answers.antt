@@ -1,5 +1,6 @@
--- Unchanged characters are their own text. So decoding writes a copy of their longest prefix, and
--- the pass goes on after it.
+-- Unchanged characters are their own text. So a copy of the longest prefix of such characters is
+-- its text, and the pass goes on after it. The prefix is one of as many of the remaining bytes as the
+-- buffer has space for (`c.min`), so its copy fits (`omega`).
 use Rattle.std.proofs.Common.{◌+◌, ◌-◌, refl, sym, subst, arith, length, take, drop}
 use Rattle.std.proofs.lemmas.List.{length-take, length-take-le, take_rest}
 use Rattle.cesu8_decode.specs.Decoding.{GoesOn}

@@ -1,5 +1,6 @@
 -- What the engine (src/engine.rt) needs to know if UTF-8 is the input and an encoding is the
--- output: each clause is a lemma on one character or on a truncated one.
+-- output: each clause is a lemma on no character (`to_empty`), on one, or on a truncated one.
+-- `at_most_six` is about the input of a character, and `widest` about its output.
 use Rattle.std.proofs.Common.{arith}
 use Rattle.cesu8_stream.proofs.Characters.{encoding_empty, encoding_few, utf8_some, utf8_few, one_utf8_begins}
 use Rattle.cesu8_stream.proofs.Utf8Completions.{utf8_part_completes}
