@@ -64,8 +64,10 @@ written_fits answer old new w h =
     omega (arith, h.0, all)
 
 -- What was written to a buffer and to the rest of it fits in the buffer.
-pub both_fit : (answer buf new : List ℕ) (w n : ℕ) → w ≤ length buf → length new ≡ length (take (length buf - w) (drop w buf)) →
+pub both_fit : (text answer old buf new : List ℕ) (w n : ℕ) → StandsAtFront text w old buf →
+    length new ≡ length (take (length buf - w) (drop w buf)) →
     StandsAtFront answer n (take (length buf - w) (drop w buf)) new → w + n ≤ length buf
-both_fit answer buf new w n within long h =
+both_fit text answer old buf new w n first long h =
+    let within = written_fits text old buf w first in
     let fits = written_fits answer (take (length buf - w) (drop w buf)) new n h in
-    omega (arith, fits, length-drop w buf, rw take_rest at long)
+    omega (arith, within, fits, length-drop w buf, rw take_rest at long)

@@ -1,7 +1,7 @@
 //! Decodes what may be damaged in few calls. `simd_cesu8` reads a window as a whole, damage too, if
 //! no character crosses its end. What is left is short: `lossy` decodes it character by character.
 
-ghost use Rattle.std.specs.Prelude.{◌≡◌, ◌≤◌, false, length};
+ghost use Rattle.std.specs.Prelude.{◌≤◌, false, length};
 ghost use Rattle.cesu8_stream.specs.Lossy.{ReadsOn};
 
 use crate::cut::is_cut;

@@ -1,6 +1,6 @@
 -- `convert_window`, and then `convert_rest` on the bytes that it left, are together one call
 -- (`continued`).
-use Rattle.std.proofs.Common.{◌≤◌, ◌+◌, length, arith}
+use Rattle.std.proofs.Common.{arith}
 use Rattle.std.proofs.lemmas.List.{take_rest}
 use Rattle.cesu8_stream.proofs.Joined.{written_fits, both_fit}
 use Rattle.cesu8_stream.proofs.First.{Sizes}
@@ -15,10 +15,7 @@ pub overflow_add-result-2 : goal.overflow_add-result-2
 overflow_add-result-2 g c =
     let first = c.convert_window-first in
     let rest = c.convert_rest-rest in
-    let fits : first.result.written + rest.result.written ≤ length first.new.buf =
-    both_fit _ first.new.buf rest.new.buf first.result.written rest.result.written (written_fits _ _ _ _ first.ensures.moves.2)
-    rest.auto.buf rest.ensures.text.2 in
-    omega arith
+    omega (arith, both_fit _ _ _ _ _ _ _ first.ensures.moves.2 rest.auto.buf rest.ensures.text.2)
 
 pub returns : goal.returns
 returns g c =

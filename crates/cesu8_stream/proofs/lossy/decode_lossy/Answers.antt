@@ -1,7 +1,7 @@
 -- A step is a strict call, and U+FFFD for the byte at which it stopped if that is damage. Two steps
 -- in a row are one (`read_on`). In each answer `facts` are the laws of the encoding,
 -- and `found` is what holds after the strict call of the round (`found_by`).
-use Rattle.std.proofs.Common.{◌≤◌, ◌+◌, length, sym, ◌∙◌, refl, arith}
+use Rattle.std.proofs.Common.{sym, ◌∙◌, refl, arith}
 use Rattle.cesu8_stream.proofs.Joined.{written_fits, both_fit}
 use Rattle.cesu8_stream.proofs.LossyWindows.{read_whatever}
 use Rattle.cesu8_stream.proofs.LossyReadings.{IsReading, found_by, stopped, filled, replaces}
@@ -25,10 +25,7 @@ pub overflow_add-written : goal.overflow_add-written
 overflow_add-written g c =
     let loop = c.loop-found in
     let call = c.convert_rest-found in
-    let fits : loop.written + call.result.written ≤ length loop.buf =
-    both_fit _ loop.buf call.new.buf loop.written call.result.written (written_fits _ _ _ _ loop.invariant.reads.2) call.auto.buf
-    call.ensures.text.2 in
-    omega arith
+    omega (arith, both_fit _ _ _ _ _ _ _ loop.invariant.reads.2 call.auto.buf call.ensures.text.2)
 
 -- The strict call stopped for another reason than damage, which its state says.
 pub returns-then-not-is_damage : goal.returns-then-not-is_damage

@@ -1,5 +1,5 @@
 -- The strict call at the start is a step, and the windows after it are another (`read_on`).
-use Rattle.std.proofs.Common.{◌≤◌, ◌+◌, false, length, arith}
+use Rattle.std.proofs.Common.{false, arith}
 use Rattle.std.proofs.lemmas.List.{take_rest}
 use Rattle.cesu8_stream.proofs.Joined.{written_fits, both_fit}
 use Rattle.cesu8_stream.proofs.Pieces.{to_end}
@@ -14,10 +14,7 @@ pub overflow_add-result-2 : goal.overflow_add-result-2
 overflow_add-result-2 g c =
     let first = c.convert_window-first in
     let rest = c.decode_rest_by_windows-rest in
-    let fits : first.result.written + rest.result.written ≤ length first.new.buf =
-    both_fit _ first.new.buf rest.new.buf first.result.written rest.result.written (written_fits _ _ _ _ first.ensures.moves.2)
-    rest.auto.buf rest.ensures.reads.2 in
-    omega arith
+    omega (arith, both_fit _ _ _ _ _ _ _ first.ensures.moves.2 rest.auto.buf rest.ensures.reads.2)
 
 pub returns-clause-reads : goal.returns-clause-reads
 returns-clause-reads g c =

@@ -4,22 +4,18 @@ use Rattle.cesu8conv_run.proofs.Pieces.{takes-none, takes-more, takes-some, brea
 use Rattle.cesu8conv_run.proofs.convert.convert_piece.Goals as goal
 
 pub loop-init : goal.loop-init
-loop-init g c = takes-none c.args.conversion c.args.is_last c.args.bytes.now _
+loop-init g c = takes-none _ _ _ _
 
 pub loop-preserved : goal.loop-preserved
 loop-preserved g c =
-    let step = c.take_steps-step in
-    takes-more c.concat.ensures c.args.conversion c.args.is_last c.args.bytes.now step.new.room c.loop.read step.result _ _ _
-    c.loop.invariant step.ensures c.in-Ok.ensures.ok
+    takes-more c.concat.ensures _ _ _ _ _ _ _ _ _ c.loop.invariant c.take_steps-step.ensures c.in-Ok.ensures.ok
 
 pub returns-in-Input-clause-ok : goal.returns-in-Input-clause-ok
 returns-in-Input-clause-ok g c =
     let step = c.take_steps-step in
     record {
-      takes = takes-more c.concat.ensures c.args.conversion c.args.is_last c.args.bytes.now step.new.room c.loop.read step.result
-          _ _ _ c.loop.invariant step.ensures c.in-Ok.ensures.ok;
-      all = λ _ last. all-taken c.args.conversion c.args.is_last c.args.bytes.now step.new.room c.loop.read step.result
-          c.loop.invariant.within step.ensures c.in-Input.is last;
+      takes = takes-more c.concat.ensures _ _ _ _ _ _ _ _ _ c.loop.invariant step.ensures c.in-Ok.ensures.ok;
+      all = λ _ last. all-taken _ _ _ _ _ _ c.loop.invariant.within step.ensures c.in-Input.is last;
       damage = λ no. cc;
     }
 
@@ -27,18 +23,14 @@ pub returns-in-Stop-clause-ok : goal.returns-in-Stop-clause-ok
 returns-in-Stop-clause-ok g c =
     let step = c.take_steps-step in
     record {
-      takes = takes-more c.concat.ensures c.args.conversion c.args.is_last c.args.bytes.now step.new.room c.loop.read step.result
-          _ _ _ c.loop.invariant step.ensures c.in-Ok.ensures.ok;
+      takes = takes-more c.concat.ensures _ _ _ _ _ _ _ _ _ c.loop.invariant step.ensures c.in-Ok.ensures.ok;
       all = λ no _. cc;
-      damage = λ _. damage-after c.args.conversion c.args.is_last c.args.bytes.now step.new.room c.loop.read step.result
-          step.ensures c.in-Stop.is;
+      damage = λ _. damage-after _ _ _ _ _ _ step.ensures c.in-Stop.is;
     }
 
 pub returns-in-Err-clause-err : goal.returns-in-Err-clause-err
 returns-in-Err-clause-err g c =
-    let step = c.take_steps-step in
-    breaks-more c.concat.ensures c.args.conversion c.args.is_last c.args.bytes.now step.new.room c.loop.read step.result _ _ _
-    c.loop.invariant step.ensures c.in-Err.ensures.err
+    breaks-more c.concat.ensures _ _ _ _ _ _ _ _ _ c.loop.invariant c.take_steps-step.ensures c.in-Err.ensures.err
 
 pub returns-clause-err : goal.returns-clause-err
-returns-clause-err g c = takes-some c.args.conversion c.args.is_last c.args.bytes.now c.loop.read _ _ c.loop.invariant
+returns-clause-err g c = takes-some _ _ _ _ _ _ c.loop.invariant
