@@ -6,7 +6,7 @@ use std::process::Abort;
 use std::str;
 use test_cases::borders::Border;
 use test_cases::comparisons::{Difference, expect_readings};
-use test_cases::fills::Input;
+use test_cases::fills;
 
 /// Asserts that a fact holds of a row or an input, and otherwise shows it.
 pub fn assert_of<T: Debug>(rt: &impl Abort, holds: bool, of: &T) {
@@ -28,9 +28,15 @@ pub fn assert_readings(rt: &impl Abort, alloc: Global, bytes: &[u8]) {
     assert_same(rt, expect_readings(alloc, bytes), bytes);
 }
 
-/// The bytes of an input with `put` inserted.
-pub fn inserted(rt: &impl Abort, alloc: Global, input: Input<'_>) -> Vec<u8> {
-    input.inserted(alloc).expect(rt, "an input")
+/// The first bytes of a fill, with `put` inserted at one offset.
+pub fn inserted(
+    rt: &impl Abort,
+    alloc: Global,
+    fill: (&[u8], usize),
+    put: &[u8],
+    place: usize,
+) -> Vec<u8> {
+    fills::inserted(alloc, fill, put, place).expect(rt, "an input")
 }
 
 /// ASCII of length `len`, with a character inserted at one offset.
@@ -41,13 +47,7 @@ pub fn ascii_with(
     character: &str,
     place: usize,
 ) -> Vec<u8> {
-    let input = Input {
-        fill: b"a",
-        len,
-        put: character.as_bytes(),
-        place,
-    };
-    inserted(rt, alloc, input)
+    inserted(rt, alloc, (b"a", len), character.as_bytes(), place)
 }
 
 /// The string of a row of `BORDERS`. It is empty only if the row's bytes are not UTF-8.

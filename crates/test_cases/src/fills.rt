@@ -41,29 +41,28 @@ pub fn filled(alloc: Global, fill: &[u8], len: usize) -> Result<Vec<u8>, AllocEr
     Ok(bytes)
 }
 
-/// A long input: `len` bytes of a fill that is repeated, and the bytes `put` at offset `place`,
-/// either between the fill's bytes or instead of them.
-#[derive(Clone, Copy, Debug, Drop)]
-pub struct Input<'a> {
-    pub fill: &'a [u8],
-    pub len: usize,
-    pub put: &'a [u8],
-    pub place: usize,
+/// The first `len` bytes of a repeated fill, with `put` inserted at offset `place`.
+pub fn inserted(
+    alloc: Global,
+    (fill, len): (&[u8], usize),
+    put: &[u8],
+    place: usize,
+) -> Result<Vec<u8>, AllocError> {
+    let filled = filled(alloc, fill, len)?;
+    let (front, back) = filled.as_slice().split_at(place.min(filled.len()));
+    joined(alloc, &[front, put, back])
 }
 
-impl Input<'_> {
-    /// The input with `put` inserted into the fill.
-    pub fn inserted(&self, alloc: Global) -> Result<Vec<u8>, AllocError> {
-        let filled = filled(alloc, self.fill, self.len)?;
-        let (front, back) = filled.as_slice().split_at(self.place.min(filled.len()));
-        joined(alloc, &[front, self.put, back])
-    }
-
-    /// The input with `put` instead of as many bytes of the fill.
-    pub fn replaced(&self, alloc: Global) -> Result<Vec<u8>, AllocError> {
-        let filled = filled(alloc, self.fill, self.len)?;
-        let (front, over) = filled.as_slice().split_at(self.place.min(filled.len()));
-        let back = over.get(self.put.len()..).unwrap_or(&[]);
-        joined(alloc, &[front, self.put, back])
-    }
+/// The first `len` bytes of a repeated fill, with `put` at offset `place` instead of as many bytes
+/// of the fill.
+pub fn replaced(
+    alloc: Global,
+    (fill, len): (&[u8], usize),
+    put: &[u8],
+    place: usize,
+) -> Result<Vec<u8>, AllocError> {
+    let filled = filled(alloc, fill, len)?;
+    let (front, over) = filled.as_slice().split_at(place.min(filled.len()));
+    let back = over.get(put.len()..).unwrap_or(&[]);
+    joined(alloc, &[front, put, back])
 }

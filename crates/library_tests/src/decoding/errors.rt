@@ -1,30 +1,21 @@
 //! How the errors display.
 
-use crate::asserts::assert_of;
+use crate::asserts::{assert_of, is_text};
 use simd_cesu8::{DecodeFault, DecodingError, encode_to_slice};
 use std::alloc::{AllocError, Global};
 use std::error::Error;
 use std::process::Abort;
 use test_cases::flavors::{Flavor, decode};
 
-/// Whether a text was written, and is these words.
-fn is_written(text: &Result<String, AllocError>, words: &str) -> bool {
-    match text {
-        Ok(text) => text.as_str() == words,
-        Err(_) => false,
-    }
-}
-
 /// Whether an error displays as these words, with and without a width.
 fn shows<E: Error>(alloc: Global, error: &E, words: &str) -> bool {
-    is_written(&format!(in alloc; "{error}"), words)
-        && is_written(&format!(in alloc; "{error:>20}"), words)
+    is_text(format!(in alloc; "{error}"), words) && is_text(format!(in alloc; "{error:>20}"), words)
 }
 
 /// Whether an error's debug text is its name, with and without a width.
 fn shows_name(alloc: Global, error: DecodingError) -> bool {
-    is_written(&format!(in alloc; "{error:?}"), "DecodingError")
-        && is_written(&format!(in alloc; "{error:20?}"), "DecodingError")
+    is_text(format!(in alloc; "{error:?}"), "DecodingError")
+        && is_text(format!(in alloc; "{error:20?}"), "DecodingError")
 }
 
 /// Asserts how the error of invalid input is shown.

@@ -46,56 +46,34 @@ fn assert_counts(rt: &impl Abort, alloc: Global, decoder: Decoder, flavor: Flavo
     assert_of(rt, counts == due, &(decoder, flavor, counts));
 }
 
+/// Asserts the outcome of one call for each input, and its counts in CESU-8 and in MUTF-8.
+fn assert_both(rt: &impl Abort, alloc: Global, decoder: Decoder, [cesu8, mutf8]: [Counts; 2]) {
+    assert_counts(rt, alloc, decoder, Flavor::Cesu8, cesu8);
+    assert_counts(rt, alloc, decoder, Flavor::Mutf8, mutf8);
+}
+
 #[test]
 fn reads_pairs_strictly(rt: HostRuntime) {
-    let decoder = Decoder::Strict;
-    assert_counts(&rt, rt.alloc(), decoder, Flavor::Cesu8, (18_304, 18_304, 0));
-    assert_counts(&rt, rt.alloc(), decoder, Flavor::Mutf8, (18_050, 18_049, 0));
+    let due = [(18_304, 18_304, 0), (18_050, 18_049, 0)];
+    assert_both(&rt, rt.alloc(), Decoder::Strict, due);
 }
 
 #[test]
 fn reads_pairs_leniently(rt: HostRuntime) {
-    let decoder = Decoder::Lenient;
-    assert_counts(&rt, rt.alloc(), decoder, Flavor::Cesu8, (18_304, 18_304, 0));
-    assert_counts(&rt, rt.alloc(), decoder, Flavor::Mutf8, (18_305, 18_304, 0));
+    let due = [(18_304, 18_304, 0), (18_305, 18_304, 0)];
+    assert_both(&rt, rt.alloc(), Decoder::Lenient, due);
 }
 
 #[test]
 fn reads_pairs_lossily_and_strictly(rt: HostRuntime) {
-    let both = [(65_536, 18_304, 61_696), (65_536, 18_049, 62_206)];
-    assert_counts(
-        &rt,
-        rt.alloc(),
-        Decoder::LossyStrict,
-        Flavor::Cesu8,
-        both[0],
-    );
-    assert_counts(
-        &rt,
-        rt.alloc(),
-        Decoder::LossyStrict,
-        Flavor::Mutf8,
-        both[1],
-    );
+    let due = [(65_536, 18_304, 61_696), (65_536, 18_049, 62_206)];
+    assert_both(&rt, rt.alloc(), Decoder::LossyStrict, due);
 }
 
 #[test]
 fn reads_pairs_lossily(rt: HostRuntime) {
-    let both = [(65_536, 18_304, 61_696), (65_536, 18_304, 61_950)];
-    assert_counts(
-        &rt,
-        rt.alloc(),
-        Decoder::LossyLenient,
-        Flavor::Cesu8,
-        both[0],
-    );
-    assert_counts(
-        &rt,
-        rt.alloc(),
-        Decoder::LossyLenient,
-        Flavor::Mutf8,
-        both[1],
-    );
+    let due = [(65_536, 18_304, 61_696), (65_536, 18_304, 61_950)];
+    assert_both(&rt, rt.alloc(), Decoder::LossyLenient, due);
 }
 
 /// Asserts `lossy_len` of each input, and the number of inputs with each length, from 0 to 6.

@@ -6,7 +6,7 @@ use crate::decoding::rows::ROWS;
 use std::alloc::Global;
 use std::ops::Range;
 use std::process::Abort;
-use test_cases::fills::{FILLS, Input};
+use test_cases::fills::FILLS;
 
 /// A surrogate pair, one that is cut off, U+0000 in both forms, UTF-8 of four bytes, U+007F, lead
 /// bytes, and bytes that begin no character.
@@ -28,18 +28,12 @@ static PIECES: [&[u8]; 11] = [
 fn assert_at(
     rt: &impl Abort,
     alloc: Global,
-    (fill, len): (&[u8], usize),
+    fill: (&[u8], usize),
     places: Range<usize>,
     put: &[u8],
 ) {
     for place in places {
-        let input = Input {
-            fill,
-            len,
-            put,
-            place,
-        };
-        assert_readings(rt, alloc, &inserted(rt, alloc, input));
+        assert_readings(rt, alloc, &inserted(rt, alloc, fill, put, place));
     }
 }
 

@@ -1,9 +1,8 @@
 //! A table of valid and damaged input, decoded by each call.
 
-use crate::asserts::{assert_of, assert_same};
+use crate::asserts::{assert_of, assert_same, is_text, text_of};
 use std::alloc::{AllocError, Global};
 use std::process::Abort;
-use std::str;
 use test_cases::borders::{BORDERS, Border};
 use test_cases::comparisons::expect_reading;
 use test_cases::flavors::{Flavor, decode_strict};
@@ -194,11 +193,8 @@ fn reads_each_encoding(rt: HostRuntime) {
 
 /// Whether `into_string` returns this text for bytes that are decoded.
 fn is_copied(alloc: Global, flavor: Flavor, bytes: &[u8], text: &str) -> bool {
-    let Ok(decoded) = decode_strict(alloc, flavor, bytes) else {
-        return false;
-    };
-    match decoded.into_string(alloc) {
-        Ok(copy) => copy.as_str() == text,
+    match decode_strict(alloc, flavor, bytes) {
+        Ok(decoded) => is_text(decoded.into_string(alloc), text),
         Err(_) => false,
     }
 }
@@ -206,7 +202,7 @@ fn is_copied(alloc: Global, flavor: Flavor, bytes: &[u8], text: &str) -> bool {
 /// Asserts that a scalar value is decoded, and that `into_string` returns it.
 fn assert_border(rt: &impl Abort, alloc: Global, flavor: Flavor, border: &Border) {
     let bytes = border.encoded(flavor);
-    let text = str::from_utf8(border.utf8).unwrap_or("");
+    let text = text_of(border);
     assert_apart(rt, alloc, flavor, bytes, (text, 0, bytes.len()));
     assert_of(rt, is_copied(alloc, flavor, bytes, text), &bytes);
 }

@@ -5,7 +5,7 @@ use std::alloc::Global;
 use std::ops::Range;
 use std::process::Abort;
 use test_cases::borders::BORDERS;
-use test_cases::fills::{FILLS, Input, OTHER_FILLS};
+use test_cases::fills::{FILLS, OTHER_FILLS, replaced};
 use test_cases::flavors::Flavor;
 use test_cases::slices::expect_slices;
 
@@ -44,14 +44,8 @@ fn assert_each_place(
 ) {
     for len in lengths {
         for place in 0..len {
-            let input = Input {
-                fill,
-                len,
-                put: &[byte],
-                place,
-            };
-            let bytes = input.replaced(alloc).expect(rt, "an input");
-            assert_read(rt, alloc, &bytes);
+            let bytes = replaced(alloc, (fill, len), &[byte], place);
+            assert_read(rt, alloc, &bytes.expect(rt, "an input"));
         }
     }
 }
@@ -104,13 +98,9 @@ fn assert_put(
     (fill, len): (&[u8], usize),
     (put, place): (&[u8], usize),
 ) {
-    let input = Input {
-        fill,
-        len: whole(fill, len),
-        put,
-        place: whole(fill, place),
-    };
-    assert_read(rt, alloc, &inserted(rt, alloc, input));
+    let fills = (fill, whole(fill, len));
+    let bytes = inserted(rt, alloc, fills, put, whole(fill, place));
+    assert_read(rt, alloc, &bytes);
 }
 
 /// The bytes that are inserted between fills.

@@ -4,7 +4,7 @@ use crate::asserts::{assert_of, inserted};
 use std::alloc::Global;
 use std::ops::Range;
 use std::process::Abort;
-use test_cases::fills::{FILLS, Input};
+use test_cases::fills::FILLS;
 use test_cases::flavors::{Flavor, valid_up_to};
 use test_cases::plain::read;
 
@@ -20,18 +20,12 @@ fn assert_front(rt: &impl Abort, alloc: Global, flavor: Flavor, bytes: &[u8]) {
 fn assert_at(
     rt: &impl Abort,
     alloc: Global,
-    (fill, len): (&[u8], usize),
+    fill: (&[u8], usize),
     places: Range<usize>,
     put: &[u8],
 ) {
     for place in places {
-        let input = Input {
-            fill,
-            len,
-            put,
-            place,
-        };
-        let bytes = inserted(rt, alloc, input);
+        let bytes = inserted(rt, alloc, fill, put, place);
         assert_front(rt, alloc, Flavor::Cesu8, &bytes);
         assert_front(rt, alloc, Flavor::Mutf8, &bytes);
     }

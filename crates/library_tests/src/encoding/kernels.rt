@@ -1,7 +1,5 @@
 //! Tests of the kernels: for which bytes each returns true.
 
-ghost use Rattle.std.specs.Prelude.{◌≤◌};
-
 use crate::asserts::assert_of;
 use simd_cesu8::implementation::{active, fallback, simd, word};
 use std::ops::Range;

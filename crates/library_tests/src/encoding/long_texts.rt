@@ -2,14 +2,14 @@
 //! and a hundred strings of the pattern's widths: characters of one, two, three and four bytes of
 //! UTF-8, then U+0000, then characters of two, three and four, repeated.
 
-use crate::asserts::{assert_of, assert_same_text};
+use crate::asserts::{assert_of, assert_same_text, inserted};
 use std::alloc::{AllocError, Global};
 use std::ops::Range;
 use std::process::Abort;
 use std::str;
 use test_cases::comparisons::{expect_encoding, expect_outcome};
 use test_cases::decoders::{Decoder, Outcome};
-use test_cases::fills::{Input, repeated};
+use test_cases::fills::repeated;
 use test_cases::flavors::{FLAVORS, Flavor, decoded_len, encode, encoded_len, lossy_len};
 use test_cases::pattern::{PATTERN, encoded_pattern};
 use test_cases::plain::encoded;
@@ -18,17 +18,6 @@ use test_cases::plain::encoded;
 /// has a fixed step that is a multiple of 91 bytes.
 const ASCII: &[u8] =
     b"!#$%&'()*+,-./0123456789:;<=>?@ABCDEFGHIJKLMNOPQRSTUVWXYZ[]^_`abcdefghijklmnopqrstuvwxyz{|}";
-
-/// ASCII of length `len`, with the bytes `put` inserted at one offset.
-fn among_ascii(alloc: Global, len: usize, put: &[u8], place: usize) -> Result<Vec<u8>, AllocError> {
-    let input = Input {
-        fill: ASCII,
-        len,
-        put,
-        place,
-    };
-    input.inserted(alloc)
-}
 
 /// Asserts the encoding of ASCII of length `len`, with a character and its encoding inserted at one
 /// offset.
@@ -39,8 +28,8 @@ fn assert_at(
     [character, changed]: [&[u8]; 2],
     (len, place): (usize, usize),
 ) {
-    let utf8 = among_ascii(alloc, len, character, place).expect(rt, "a text");
-    let bytes = among_ascii(alloc, len, changed, place).expect(rt, "its encoding");
+    let utf8 = inserted(rt, alloc, (ASCII, len), character, place);
+    let bytes = inserted(rt, alloc, (ASCII, len), changed, place);
     let text = str::from_utf8(&utf8).unwrap_or("");
     assert_same_text(rt, expect_encoding(alloc, flavor, text, &bytes), text);
 }

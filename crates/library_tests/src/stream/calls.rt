@@ -5,6 +5,7 @@
 use cesu8_stream::{Progress, mutf8};
 use std::alloc::Global;
 use std::process::Abort;
+use test_cases::fills;
 
 /// A character in CESU-8, in MUTF-8 and in UTF-8.
 pub const CHARACTERS: [[&[u8]; 3]; 13] = [
@@ -82,7 +83,5 @@ impl Call {
 
 /// Joins two parts.
 pub fn joined(rt: &impl Abort, alloc: Global, first: &[u8], second: &[u8]) -> Vec<u8> {
-    let mut both = Vec::from_slice(alloc, first).expect(rt, "a part");
-    both.extend_from_slice(second).expect(rt, "another part");
-    both
+    fills::joined(alloc, &[first, second]).expect(rt, "two parts")
 }

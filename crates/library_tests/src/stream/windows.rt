@@ -7,6 +7,7 @@ use crate::stream::damaged::DAMAGED;
 use crate::stream::lossy::is_read;
 use std::alloc::{AllocError, Global};
 use std::process::Abort;
+use test_cases::fills::{joined, repeated};
 
 /// The length of a call's buffer. A window is at least five bytes shorter than a third of it, so it
 /// has at most 95 bytes.
@@ -23,15 +24,9 @@ fn surround(
     count: usize,
     bytes: &[u8],
 ) -> Result<Vec<u8>, AllocError> {
-    let mut whole = Vec::from_slice(alloc, damage)?;
-    for _ in 0..count {
-        whole.push(b'a')?;
-    }
-    whole.extend_from_slice(bytes)?;
-    for _ in 0..count {
-        whole.push(b'b')?;
-    }
-    Ok(whole)
+    let before = repeated(alloc, b"a", count)?;
+    let after = repeated(alloc, b"b", count)?;
+    joined(alloc, &[damage, &before, bytes, &after])
 }
 
 /// Decodes a damaged byte, letters, these bytes and letters in one piece, and compares all that the
