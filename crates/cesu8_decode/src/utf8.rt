@@ -4,7 +4,7 @@
 //! in parts that end between characters, and nothing is read after the first part with an error.
 //! `simdutf8::is_utf8` reads all bytes, and copies the last ones to a buffer.
 
-ghost use Rattle.std.specs.Prelude.{◌≡◌, ◌↔◌, ℕ, ◌+◌, ◌-◌, ◌<◌, ◌≤◌, List, ◌++◌, IsTrue, IsUtf8, length};
+ghost use Rattle.std.specs.Prelude.{◌↔◌, ℕ, ◌+◌, ◌-◌, ◌<◌, ◌≤◌, List, ◌++◌, IsTrue, IsUtf8, length};
 ghost use Rattle.std.specs.Str.{IsCharBoundary};
 ghost use Rattle.simdutf8.specs.Tracks.{HasRead};
 ghost use Rattle.cesu8_text.specs.Patterns.{IsContinuation};

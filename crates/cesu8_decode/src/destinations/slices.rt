@@ -7,7 +7,6 @@
 //! slice is shorter than the input. Lossy decoding always counts the length.
 
 ghost use Rattle.std.specs.Prelude.{◌≡◌, ◌+◌, ◌≤◌, ◌<◌, ◌++◌, length, drop};
-ghost use Rattle.cesu8_text.specs.Reading.{reading};
 ghost use Rattle.cesu8_bytes.specs.Puts.{PutsAnswer};
 ghost use Rattle.cesu8_bytes.specs.declared.strictness.Strictness.TheVariants.{Strict, Lossy};
 ghost use Rattle.cesu8_decode.specs.Decoding.{room_for, room_for_short};

@@ -6,7 +6,7 @@
 //! that the last character may be cut off. A pair of bytes that no character of the set has is of a
 //! class that is never required.
 
-ghost use Rattle.std.specs.Prelude.{◌≡◌, ℕ, List, ◌+◌, ◌*◌, ◌-◌, ◌<◌, ◌≤◌, ◌++◌, ◌==◌, ◌&&◌, IsTrue, false, length, take, map, drop, if◌then◌else◌, not};
+ghost use Rattle.std.specs.Prelude.{◌≡◌, ℕ, List, ◌+◌, ◌*◌, ◌-◌, ◌<◌, ◌≤◌, ◌++◌, ◌==◌, ◌&&◌, IsTrue, false, length, map, drop, if◌then◌else◌, not};
 ghost use Rattle.std.specs.List.{range_with_len};
 ghost use Rattle.std.specs.Simd.Lanes.{zip2};
 ghost use Rattle.cesu8_bytes.specs.Kernels.{mask};

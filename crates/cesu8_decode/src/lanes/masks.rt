@@ -3,7 +3,7 @@
 //! Comparisons give a mask for each class of bytes. Shifted by one bit, such a mask is about the
 //! next byte. So a few operations on masks find all characters of one form at once.
 
-ghost use Rattle.std.specs.Prelude.{◌≡◌, ◌≤◌, ◌+◌, ◌&&◌, ◌||◌, ◌==◌, nat_le, nat_lt, slice_index};
+ghost use Rattle.std.specs.Prelude.{◌≤◌, ◌+◌, ◌&&◌, ◌||◌, ◌==◌, nat_le, nat_lt, slice_index};
 ghost use Rattle.cesu8_text.specs.Class.{is_null};
 ghost use Rattle.cesu8_decode.specs.DecodedOffsets.{continues};
 ghost use Rattle.cesu8_decode.specs.Masks.{AreMasks, HasBits, has_bit_below, is_long_lead_at, is_null_at, is_six_at, is_three_at};

@@ -5,7 +5,7 @@
 //! place, but vectors also load bytes after a window. So the last bytes of the input are copied to
 //! an array, with zeros after them.
 
-ghost use Rattle.std.specs.Prelude.{◌≡◌, ℕ, ◌+◌, ◌-◌, ◌*◌, ◌<◌, ◌≤◌, false, length};
+ghost use Rattle.std.specs.Prelude.{◌≡◌, ◌+◌, ◌-◌, ◌*◌, ◌<◌, ◌≤◌, false, length};
 ghost use Rattle.cesu8_bytes.specs.declared.strictness.Strictness.{Strictness as AnyStrictness};
 ghost use Rattle.cesu8_decode.specs.Decoding.{IsPass, CanGoOn, GoesOn, WritesReading, pass_from, room_for};
 

@@ -2,7 +2,7 @@
 //!
 //! C0 becomes 00 and 80 is dropped, so shuffles pack the bytes by eights, with no branch on a byte.
 
-ghost use Rattle.std.specs.Prelude.{◌≡◌, ◌+◌, ◌≤◌, ◌==◌, if◌then◌else◌, true, length, map};
+ghost use Rattle.std.specs.Prelude.{◌≡◌, ◌+◌, ◌≤◌, ◌==◌, if◌then◌else◌, length, map};
 ghost use Rattle.cesu8_decode.specs.Decoding.{WritesWindow};
 ghost use Rattle.cesu8_decode.specs.Masks.{HoldWindow};
 

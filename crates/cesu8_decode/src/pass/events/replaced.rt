@@ -3,7 +3,7 @@
 //! Four bytes at a time are packed by a shuffle that puts the replacement character in place of
 //! each ill-formed byte, with no branch on a byte.
 
-ghost use Rattle.std.specs.Prelude.{◌≡◌, List, Bool, ◌+◌, ◌*◌, ◌<◌, ◌≤◌, true, false, length, take, replicate};
+ghost use Rattle.std.specs.Prelude.{◌≡◌, List, Bool, ◌+◌, ◌*◌, ◌<◌, ◌≤◌, false, length, take, replicate};
 ghost use Rattle.std.specs.Simd.Lanes.{mask_l};
 ghost use Rattle.cesu8_bytes.specs.Packing.{written, kept_of, lanes_at};
 ghost use Rattle.cesu8_bytes.specs.Puts.{WritesAt};
