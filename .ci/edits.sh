@@ -142,7 +142,9 @@ try_round() {
     owners=("${@/%/.owners}")
     [[ $how == whole ]] || mapfile -t functions < <(functions_of "$crate" "$@")
     lay_lines "$crate" "$@"
-    (cd "$tree/crates/$crate" && exec env TMPDIR="$scratch/rooms" rt check --jobs 1 "${functions[@]/#/--only=}") \
+    # Nothing waits for an edit, so this check has the lowest priority.
+    (cd "$tree/crates/$crate" &&
+        exec nice -n 10 env TMPDIR="$scratch/rooms" rt check --jobs 1 "${functions[@]/#/--only=}") \
         </dev/null >"$plan/said" 2>&1 || status=$?
     take_lines "$crate"
     while IFS=$'\t' read -r name result why; do
