@@ -11,7 +11,8 @@
 # - run_programs begins with what needs no proof. It goes on with what needs only the programs of
 #   `rt ci`.
 # - run_release begins when exports.sh has built the library for C, which dist.sh copies. When
-#   dist.sh has made the release, two lanes share the scripts that use it.
+#   dist.sh has made the release, two lanes share the scripts that use it. The shorter of these
+#   lanes also runs vendor.sh, which only copies the proofs of the libraries.
 #
 # So no script reads what another may be writing. Each writes into a temporary folder of its own,
 # except for two places: the folders `out` of this copy, and RELEASE, the folder in which dist.sh
@@ -19,7 +20,7 @@
 
 without_proof=(examples)
 of_programs=(memory cli cesu8conv hostile requests peers)
-of_libraries=(bench costs vendor)
+of_libraries=(bench costs)
 of_archive=(rust aarch64)
 of_packages=(wheel packages)
 
@@ -58,10 +59,12 @@ run_programs() {
 }
 
 run_release() {
-    await_programs || return 0
-    run_scripts_in_lane dist
-    run_scripts_in_lane "${of_packages[@]}" &
-    run_scripts_in_lane "${of_archive[@]}"
+    if await_programs; then
+        run_scripts_in_lane dist
+        run_scripts_in_lane "${of_archive[@]}" &
+        run_scripts_in_lane "${of_packages[@]}"
+    fi
+    run_scripts_in_lane vendor
     wait
 }
 
@@ -90,7 +93,7 @@ count_lanes() {
         count_part "$status" "$name"
         ended+="$name "
     done < <(tail -n +1 -f --pid="$lanes" "$scratch/ended")
-    expected=(exports dist "${without_proof[@]}" "${of_programs[@]}" "${of_libraries[@]}"
+    expected=(exports dist vendor "${without_proof[@]}" "${of_programs[@]}" "${of_libraries[@]}"
         "${of_archive[@]}" "${of_packages[@]}")
     expected=("${expected[@]/#/tests/}")
     for name in 'rt lib' .ci/shows.sh "${expected[@]/%/.sh}"; do
