@@ -133,6 +133,13 @@ try_messages() {
     damage 'a\xC0\x80' decode cesu8 a '1: byte 1: c0 80: not CESU-8; it is U+0000 in MUTF-8: use mutf8'
     damage '\xED\xA0\xBDabcdef' mixed cesu8 '' '1: byte 0: ed a0 bd: an unpaired surrogate'
     damage 'a\xE2\x82' decode cesu8 a '1: byte 1: e2 82: the input ends within a character'
+    damage 'a\xED\xAF' decode cesu8 a '1: byte 1: ed af: the input ends within a character'
+    damage 'a\xC0' decode mutf8 a '1: byte 1: c0: the input ends within a character'
+    damage 'a\xF0\x9F' mixed cesu8 a '1: byte 1: f0 9f: the input ends within a character'
+    # The input may as well go on after bytes that begin no character of it.
+    damage 'a\xF0\x9F' decode cesu8 a '1: byte 1: f0: not CESU-8'
+    damage 'a\xED\xB0' decode cesu8 a '1: byte 1: ed: not CESU-8'
+    damage 'a\xED\xAF' encode cesu8 a '1: byte 1: ed: not UTF-8'
     damage "a$pair" encode cesu8 a '1: byte 1: ed a0 bd: a surrogate, not UTF-8; is this CESU-8? Then use decode'
     damage 'a\xC0\x80' encode mutf8 a '1: byte 1: c0 80: not UTF-8; it is U+0000 in MUTF-8: use decode mutf8'
     damage '\xFF' encode cesu8 '' '1: byte 0: ff: not UTF-8'

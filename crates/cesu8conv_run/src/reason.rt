@@ -14,7 +14,8 @@ pub struct Reason {
 }
 
 /// Why the bytes, of which there is at least one, are damage to a conversion. They are all those
-/// from the damage on that were read.
+/// from the damage on that were read. If they are only the beginning of a character that the
+/// conversion reads, the input ends there: otherwise it would have read more before it stopped.
 pub fn reason_of(conversion: Conversion, bytes: &[u8]) -> Reason {
     match conversion {
         Conversion::Encode(_) => utf8_reason(bytes),
@@ -37,7 +38,7 @@ fn utf8_reason(bytes: &[u8]) -> Reason {
             text: "not UTF-8; it is U+0000 in MUTF-8: use decode mutf8",
         };
     }
-    cut_or(bytes, "not UTF-8")
+    cut_or(begins_utf8(bytes), bytes, "not UTF-8")
 }
 
 /// Why bytes are not the encoding. If they are a character of UTF-8, this says so.
@@ -57,11 +58,18 @@ fn decode_reason(flavor: FlavorWord, bytes: &[u8]) -> Reason {
             text: "not MUTF-8, which has C0 80 for U+0000: use mixed",
         };
     }
-    mixed_reason(flavor, bytes)
+    encoding_reason(flavor, bytes, begins_encoded(flavor, bytes))
 }
 
 /// Why bytes are neither the encoding nor UTF-8.
 fn mixed_reason(flavor: FlavorWord, bytes: &[u8]) -> Reason {
+    let is_cut = begins_encoded(flavor, bytes) || begins_utf8(bytes);
+    encoding_reason(flavor, bytes, is_cut)
+}
+
+/// Why bytes are not the encoding, if they are no character of UTF-8. `is_cut` says whether they are
+/// only the beginning of a character.
+fn encoding_reason(flavor: FlavorWord, bytes: &[u8], is_cut: bool) -> Reason {
     if let (FlavorWord::Cesu8, [0xC0, 0x80, ..]) = (flavor, bytes) {
         return Reason {
             shown: 2,
@@ -75,6 +83,7 @@ fn mixed_reason(flavor: FlavorWord, bytes: &[u8]) -> Reason {
         };
     }
     cut_or(
+        is_cut,
         bytes,
         match flavor {
             FlavorWord::Cesu8 => "not CESU-8",
@@ -84,9 +93,9 @@ fn mixed_reason(flavor: FlavorWord, bytes: &[u8]) -> Reason {
 }
 
 /// The reason for bytes that are only the beginning of a character, or this text for the first
-/// byte. In the first case it says that the input ends, since no more bytes were read.
-fn cut_or(bytes: &[u8], text: &'static str) -> Reason {
-    if is_cut(bytes) {
+/// byte.
+fn cut_or(is_cut: bool, bytes: &[u8], text: &'static str) -> Reason {
+    if is_cut {
         return Reason {
             shown: bytes.len(),
             text: "the input ends within a character",
@@ -111,12 +120,21 @@ fn is_four(bytes: &[u8]) -> bool {
     }
 }
 
-/// Whether the bytes are at most three, and only the beginning of a character or of half of a pair.
-fn is_cut(bytes: &[u8]) -> bool {
+/// Whether the bytes are at most three, and only the beginning of a character of the encoding or of
+/// the first half of a pair.
+fn begins_encoded(flavor: FlavorWord, bytes: &[u8]) -> bool {
+    match (flavor, bytes) {
+        (_, [0xED, 0xA0..=0xAF]) | (FlavorWord::Mutf8, [0xC0]) => true,
+        // In UTF-8 these bytes lead a character of four bytes, which the encodings do not have.
+        (_, [0xF0..=0xFF, ..]) => false,
+        _ => begins_utf8(bytes),
+    }
+}
+
+/// Whether the bytes are at most three, and only the beginning of a character of UTF-8.
+fn begins_utf8(bytes: &[u8]) -> bool {
     match bytes {
         [_, _, _, _, ..] => false,
-        // UTF-8 has no surrogates, but the encodings do.
-        [0xED, 0xA0..=0xBF] => true,
         _ => match compat::from_utf8(bytes) {
             Ok(_) => false,
             Err(error) => error.valid_up_to() == 0 && error.error_len().is_none(),
