@@ -1,6 +1,6 @@
 //! Classes of bytes, and how a vector of each width tests for them.
 
-ghost use Rattle.std.specs.Prelude.{◌≡◌, ◌==◌, ◌||◌, ◌&&◌, ◌≤◌, ◌↔◌, ℕ, Bool, false, nat_le, nat_lt, IsTrue, map};
+ghost use Rattle.std.specs.Prelude.{◌≡◌, ◌==◌, ◌||◌, ◌≤◌, ◌↔◌, ℕ, Bool, false, nat_le, IsTrue, map};
 ghost use Rattle.std.specs.Simd.Lanes.{mask_l};
 ghost use Rattle.cesu8_text.specs.Class.{is_four, is_one_unit};
 ghost use Rattle.cesu8_bytes.specs.Kernels.{AnyIn, lane, mask};
@@ -87,8 +87,6 @@ pub type AtLeastF0 = AtLeast<0xF0>;
 pub type NonAscii = AtLeast<0x80>;
 /// The bytes that are in `A` or in `B`.
 pub struct Either<A, B>(PhantomData<(A, B)>);
-/// Continuation bytes: 80 to BF (hexadecimal).
-pub struct Continuation;
 /// In UTF-8, the lead bytes of one UTF-16 code unit: 00 to 7F, or C0 to EF (hexadecimal).
 pub struct OneUnit;
 
@@ -155,19 +153,6 @@ impl<A: InVectors<N>, B: InVectors<N>, const N: usize> InVectors<N> for Either<A
         ensures { result ≡ map (λ b. lane (A.class b || B.class b)) bytes.entry }
     {
         A::marks(bytes) | B::marks(bytes)
-    }
-}
-
-impl Class for Continuation {
-    ghost class = { λ b. nat_le 0x80 b && nat_lt b 0xC0 };
-}
-
-impl<const N: usize> InVectors<N> for Continuation {
-    #[inline(always)]
-    fn marks(bytes: Simd<u8, N>) -> Mask<i8, N>
-        ensures { result ≡ map (λ b. lane (nat_le 0x80 b && nat_lt b 0xC0)) bytes.entry }
-    {
-        (bytes & Simd::splat(0xC0)).simd_eq(Simd::splat(0x80))
     }
 }
 
