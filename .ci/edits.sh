@@ -1,7 +1,8 @@
 # How the gate tries the edits of must-fail. .ci/run sources this file, and first sets `scratch`. In
 # that folder, `scripts` is a copy of the tree in which the libraries are proved, and `proved` has a
 # file for each crate that is proved already. This file works in `rounds`, and `rooms` has the
-# temporary files of checks. The function `note_seconds` is in account.sh.
+# temporary files of checks. The function `note_seconds` is in account.sh. shows.sh sources this
+# file too, for `listed_crates`, `used_by` and `print_changed`, which do not need `scratch`.
 # shellcheck shell=bash disable=SC2154
 #
 # Most of a check is loading, so one check tries several edits at once, a round. rounds.awk makes the rounds,

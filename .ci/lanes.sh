@@ -124,8 +124,8 @@ prove_libraries() {
 }
 
 # Copies a program as soon as `rt ci` says that it has proved and linked it, or has it from an
-# earlier run, since `rt ci` takes it away when it ends. If it ends or says otherwise there is none:
-# `keep_program CRATE FILE`.
+# earlier run, since `rt ci` removes the program at its end. Fails if `rt ci` says that the program
+# is not proved, or ends without having it: `keep_program CRATE FILE`.
 keep_program() {
     local is_over=''
     until grep -qE "rt: $1 (proved$|is kept: )" "$scratch/ci.output"; do

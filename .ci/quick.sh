@@ -4,12 +4,14 @@
 #
 # It compares this tree with a commit, and tests less than the gate, so only the gate decides. It starts from
 # what `rt` has kept in the `out` folders of this clone. Then it
-# - proves the crates that differ, and the crates that use them if these have `specs` or are programs. Of
-#   what these use, it proves only what this clone has no proof of in its present form;
+# - proves the crates that differ, and the crates that use them if these have `specs`, or are
+#   cesu8_cli or cesu8conv. Of what these use, it proves only what this clone has no proof of in its
+#   present form;
 # - runs, without proof, the tests of the crates that differ and of all crates that use them;
 # - tries the edits that differ and those of files that differ, but leaves .ci/shows.sh to the gate. It also
 #   tests that all edits of the crates that differ can be applied;
-# - links each program that was proved, and runs its scripts: cli.sh and requests.sh, or cesu8conv.sh.
+# - links cesu8_cli and cesu8conv if they were proved, and runs their scripts: cli.sh and
+#   requests.sh, or cesu8conv.sh.
 #
 # If a crate had nothing in its `out` folder, as often `uses` and the tests, its proof is kept there for the
 # next run.
@@ -19,9 +21,9 @@
 # or not proved ends the run.
 # shellcheck shell=bash disable=SC2034,SC2154
 
-# A crate is above those that it uses, directly or through others. The crates that differ; those above them
-# that have contracts for users; those that have tests; those above that have neither; and what is proved,
-# each after what it uses.
+# A crate is above those that it uses, directly or through others. These lists have the crates that
+# differ; those above them that are proved; those that have tests; those above that are neither
+# proved nor tested here; and the crates to prove with all that they use, each after what it uses.
 differing=()
 above=()
 tested=()
@@ -59,7 +61,7 @@ is_changed() {
     [[ " ${differing[*]} ${above[*]} " == *" $1 "* ]]
 }
 
-# Sorts the crates into these lists, by how the tree differs from a commit: `choose_crates REV`.
+# Fills the five lists, by how the tree differs from a commit: `choose_crates REV`.
 choose_crates() {
     local crate
     if ! git diff --name-only --no-renames "$1" -- >"$scratch/paths"; then
@@ -182,8 +184,8 @@ run_in() {
     return 1
 }
 
-# Tests that a crate is formatted as `rt fmt` would, and that all of its edits can be applied. It prints what
-# `rt` reports.
+# Tests that a crate is formatted as `rt fmt` wants, and that all of its edits can be applied. It
+# prints what `rt` reports.
 look_at_form() {
     local said
     # `rt` does not read the lines `shows:` of edits, which are for .ci/shows.sh, and notes each.

@@ -8,10 +8,11 @@
 #   rounds       the names of each round
 #   bad          each edit that can't be applied: NAME WHY
 #
-# Each edit of a round changes the body of another function. Another function's proof cites the contract of
-# that function and does not see its body, so no edit makes a goal of another function false. An edit for
-# which that is not true has its own round: one of a table, a contract, a spec, a proof, a `const fn`, or a
-# function under `#[cycle(..)]`, whose proof sees the bodies of the others of the cycle.
+# No two edits of a round change the same function. A function's proof cites the contracts of other
+# functions and does not see their bodies, so an edit makes only goals of its own function false. An
+# edit for which that is not true has its own round: one of a table, a contract, a spec, a proof, a
+# `const fn`, or a function under `#[cycle(..)]`, whose proof sees the bodies of the others of the
+# cycle.
 #
 # While a function is not proved, `rt` does not try the goals of its callers. So an edit is put in a round in
 # which no function calls another one, if there is such a round. The names alone do not show that for sure, so

@@ -77,7 +77,8 @@ copy_changed() {
     done < <(cut -f 1 "$plan/$name.lines" | sort -u)
 }
 
-# Adds an edit's test, and what it needs: `add_edit EDIT NUMBER`.
+# Adds an edit's test to the crate `shown`. The crates that the test names are added to `uses`, with
+# and without the change, and these and all below them to `unchanged`: `add_edit EDIT NUMBER`.
 add_edit() {
     local test name it renamed
     test=$(sed -n 's/^shows: *//p' "$1")

@@ -83,7 +83,7 @@ impl Grid<'_> {
         cells.flat_map(|cell| cell.codecs.iter_mut().flatten())
     }
 
-    /// For each cell of this library, the slowest run's time divided by the fastest one's.
+    /// For each cell of this library, the slowest measurement's time divided by the fastest one's.
     pub fn scatters(&self) -> impl Iterator<Item = f64> {
         let cells = self.cells.iter();
         let measured = cells.flat_map(|cell| cell.codecs.iter().zip(self.codecs));

@@ -1,7 +1,7 @@
 #!/usr/bin/env bash
-# Measures how the time of the program grows with hostile input of 1, 10 and 100 MB. It prints the
-# processor time of the process in milliseconds, including reading and writing, and the ratio of
-# 100 MB to 10 MB:
+# Measures how the time of the program cesu8_cli grows with hostile input of 1, 10 and 100 MB. It
+# prints the processor time of the process in milliseconds, including reading and writing, and the
+# ratio of 100 MB to 10 MB:
 #   bench/growth.sh [ROUNDS]
 # Each time is the least of ROUNDS runs, 3 by default. README.md says more. It needs the kit's rt, bash,
 # awk and the core utilities.

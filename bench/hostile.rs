@@ -1,5 +1,6 @@
 //! Decoding of hostile input: damaged, random and otherwise slow to decode. Each call is measured on
-//! many different inputs of each kind in turn, and the tables name the worst kind of each length.
+//! the inputs of a kind in turn, which differ if the kind is random. The tables name the worst kind
+//! of each length.
 
 use crate::codec::{Action, Codec, FLAVORS, Flavor, path};
 use crate::expected::{encoded, expected};
@@ -9,7 +10,7 @@ use crate::sets::{Kind, Random, SEED, at_page_start, encoded_bytes, of_any_lengt
 
 const LENGTHS: [usize; 5] = [24, 72, 200, 1_024, 16_380];
 
-/// The total length of the inputs of one kind and length; a longer input is the only one.
+/// The total length of the inputs of one random kind and length. Another kind has one input.
 const BYTES: usize = 1 << 15;
 
 /// Some kinds are also measured at about this length: a part of `LONG_PART` bytes is repeated as often as

@@ -124,7 +124,8 @@ pub fn sets() -> Vec<Set> {
     sets
 }
 
-/// A kind of text for the encoders.
+/// A kind of text. Encoding is measured on all of them. hostile.rs makes encodings of some, and
+/// kernels.rs uses ASCII.
 #[derive(Clone, Copy, PartialEq)]
 pub enum Kind {
     Ascii,

@@ -25,7 +25,8 @@ const LONG: usize = 1 << 20;
 const LONG_DISTANCE: u32 = 100;
 const MANY_DISTANCE: u32 = 4;
 
-/// Something that is measured, and its least times.
+/// Something that is measured, and its least times. A run is one call, or a call on each of several
+/// inputs. What the driver's option `--runs` repeats is a measurement here.
 pub struct Measured {
     /// Makes this many runs.
     run: Box<dyn FnMut(u32)>,

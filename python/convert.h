@@ -24,8 +24,8 @@ typedef struct cesu8_answer tells(const uint8_t *, size_t);
 typedef struct cesu8_answer writes(const uint8_t *, size_t, uint8_t *, size_t);
 typedef struct cesu8_progress streams(const uint8_t *, size_t, uint8_t *, size_t);
 
-// The calls by encoding, with MUTF-8 second. For DECODES the other indices are whether the call is
-// lenient and whether it is lossy.
+// The calls by encoding, with MUTF-8 second. Those in LOOKS return the length of the valid prefix.
+// For DECODES the other indices are whether the call is lenient and whether it is lossy.
 static const char *const ENCODINGS[2] = {"cesu-8", "mutf-8"};
 static tells *const LOOKS[2] = {cesu8_valid_up_to, cesu8_mutf8_valid_up_to};
 static streams *const STREAMS[2] = {cesu8_stream_decode_strict, cesu8_mutf8_stream_decode_strict};
@@ -88,6 +88,7 @@ static struct input between(PyObject *data, Py_ssize_t start, Py_ssize_t stop)
     return (struct input){bytes + start, stop < 0 ? 0 : (size_t)(stop - start)};
 }
 
+// Makes a call. For a long input that is not held, other threads may run meanwhile.
 static struct cesu8_answer run(
     writes *call, struct input input, int is_held, uint8_t *buffer, size_t room)
 {
@@ -104,7 +105,8 @@ static PyObject *text_of(const uint8_t *utf8, size_t length)
 }
 
 // Fast path for `bytes.decode`, which passes only a view: decodes up to FEW valid bytes on the
-// stack, without an object for the copy. Otherwise the result is null.
+// stack, without an object for the copy, and sets `length` to their number. Otherwise the result is
+// null.
 static PyObject *text_of_few(
     int is_mutf8, PyObject *const *given, Py_ssize_t count, Py_ssize_t *length)
 {
@@ -177,7 +179,8 @@ static int is_cut(int is_mutf8, struct input input)
 }
 
 // Returns the offset of an incomplete character at the end of the part, or the end if there is
-// none. With `surrogatepass` the second of two surrogates is a character too.
+// none. With `surrogatepass` a low surrogate is a character too, even without a high one before it,
+// so its first two bytes are an incomplete one.
 static Py_ssize_t before_cut(const struct part *part, const char *errors)
 {
     int is_passed = strcmp(errors, "surrogatepass") == 0;
@@ -203,9 +206,9 @@ static PyObject *error_at(int is_mutf8, PyObject *data, Py_ssize_t place, Py_ssi
 }
 
 // Replaces the first byte of `left` as one of Python's error handlers does: writes at most four
-// bytes to the output, and advances both. Returns 0 if the handler would raise, or is not one of
-// Python's. `surrogateescape` writes U+DC00 plus the byte, and `surrogatepass` copies an encoded
-// surrogate. A surrogate has three bytes.
+// bytes to `output`, and advances `left` and `output`. Returns 0 if the handler would raise, or is
+// not one of Python's. `surrogateescape` writes U+DC00 plus the byte, and `surrogatepass` copies an
+// encoded surrogate. A surrogate has three bytes.
 static int replace(const char *errors, struct input *left, uint8_t **output)
 {
     uint8_t byte = *left->bytes;
@@ -274,7 +277,8 @@ static PyObject *decoded(
         answer = run(call, input, part->is_held, few, sizeof few);
     *place = part->stop;
     if (answer.status == CESU8_TOO_SMALL) {
-        // Every change makes the text shorter unless the call is lossy, so here nothing changes.
+        // Every change makes the text shorter unless the call is lossy, so if the lengths are
+        // equal, nothing changes.
         if (is_counted && !is_lossy && answer.length == input.length)
             return text_of(input.bytes, input.length);
         buffer = PyMem_Malloc(answer.length);
@@ -329,7 +333,7 @@ static PyObject *bytes_by(writes *call, int is_mutf8, PyObject *text, const char
     uint8_t few[FEW];
     struct input input = between(utf8, 0, PyBytes_Size(utf8));
     struct cesu8_answer answer = run(call, input, 0, few, sizeof few);
-    // Every change makes the encoding longer, so here nothing changes.
+    // Every change makes the encoding longer, so if the lengths are equal, nothing changes.
     if (answer.length == input.length)
         return utf8;
     if (answer.status == CESU8_OK) {

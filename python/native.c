@@ -1,5 +1,5 @@
-// The functions of the package, with Python's stable interface of 3.10. Nothing in this file is
-// proved.
+// The module cesu8._native, with Python's stable interface of 3.10. Its functions parse their
+// arguments, and convert.h decodes and encodes. Nothing in this file is proved.
 
 #define Py_LIMITED_API 0x030A0000
 #include "convert.h"
@@ -15,8 +15,9 @@ static Py_ssize_t place_of(const char *const *names, PyObject *name)
 
 #define REFUSE(...) return PyErr_Format(PyExc_TypeError, __VA_ARGS__), 0
 
-// Parses the arguments of a call, by position and by name, into `found`. The first `needed` ones are
-// required. An argument whose bit in `strings` is set must be a string. Returns 0 with an exception.
+// Parses the arguments of a call, by position and by name, into `found`. The first `needed` ones
+// are required. An argument whose bit in `strings` is set must be a string. If the arguments are
+// wrong, returns 0 with an exception.
 static int take(const char *const *names, int needed, int strings, PyObject *const *given,
     Py_ssize_t count, PyObject *keywords, PyObject **found)
 {
@@ -35,7 +36,8 @@ static int take(const char *const *names, int needed, int strings, PyObject *con
     return 1;
 }
 
-// Returns a string as a C string. If it contains a NUL, returns null with an exception.
+// Returns a string as a C string. If it contains a NUL or a surrogate, returns null with an
+// exception.
 static const char *said(PyObject *string)
 {
     Py_ssize_t length;
@@ -66,7 +68,8 @@ static int is_mutf8(PyObject *encoding)
 }
 
 // Returns bytes objects as they are, and for other data a view that can be sliced by the byte. The
-// data is copied only if it is not contiguous and its items have several bytes.
+// data is copied only if it is not contiguous and the elements that `len` counts have several
+// bytes.
 static PyObject *row_of(PyObject *data)
 {
     if (PyBytes_CheckExact(data))
@@ -90,7 +93,8 @@ static PyObject *row_of(PyObject *data)
     return row;
 }
 
-// Sets `part` to a part of the MUTF-8 that row_of returned. Returns 0 with an exception.
+// Sets `part` to the bytes from `start` to `stop` of what row_of returned, or to a copy of them.
+// Returns 0 with an exception if the copy fails.
 static int cut_out(PyObject *row, Py_ssize_t start, Py_ssize_t stop, struct part *part)
 {
     if (PyBytes_CheckExact(row)) {
@@ -105,7 +109,8 @@ static int cut_out(PyObject *row, Py_ssize_t start, Py_ssize_t stop, struct part
 }
 
 // Sets `string` to the bytes of the string whose count is at offset `start`. Returns 0 with an
-// exception. If the count itself is cut off, `length` remains `left`, which is too long.
+// exception if bytes are missing. If the count itself is cut off, `length` remains `left`, which is
+// too long.
 static int cut_string(PyObject *row, Py_ssize_t start, struct part *string)
 {
     struct part count;
@@ -229,7 +234,8 @@ CODEC(cesu_8_decode, codec_decode, 0)
 CODEC(mutf_8_encode, codec_encode, 1)
 CODEC(mutf_8_decode, codec_decode, 1)
 
-// next_text(is_mutf8, data, start, stop): decodes the valid prefix of these bytes.
+// next_text(is_mutf8, data, start, stop): decodes the valid prefix of these bytes, and returns its
+// text and the offset after it. cesu8/_codec.py calls it and next_error between error handlers.
 static PyObject *next_text(PyObject *Py_UNUSED(module), PyObject *arguments)
 {
     struct part part = {NULL, 0, 0, 0, 0, 0};

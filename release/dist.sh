@@ -14,7 +14,7 @@
 # the programs: the kit has the C parts of programs only for x86-64.
 #
 # It needs the kit's `rt`, git, a C compiler `cc` with GNU ld 2.36 or later, ar, ld, nm, objcopy,
-# objdump, strip, GNU tar, gzip, bash, awk, grep, sed and the core utilities.
+# objdump, strip, GNU tar, gzip, bash, awk, find, grep, sed and the core utilities.
 set -euo pipefail
 unset CDPATH
 export LC_ALL=C
@@ -198,6 +198,7 @@ pack() {
 }
 
 # Makes the release for aarch64 from that for x86-64: with another library and without the programs.
+# `fill` and `pack` see its local variables in place of those for x86-64.
 make_cross() {
     local release=$scratch/$cross_name name=$cross_name others='x86_64|amd64|AMD64'
     local program_lines='/^@PROGRAM@$/,/^@END@$/d'

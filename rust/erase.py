@@ -8,6 +8,9 @@ It works in two steps. The first removes what Rattle adds to Rust, character by 
 contracts hold text that is no Rust. The second rewrites tokens of Rust. Each change belongs to a
 rule in RULES. It stops at what no rule knows, and it puts no text of its own in place of a
 function's body.
+
+The shim, which the erased code calls in place of Rattle's standard library, is written by hand in
+rust/crate/src/codec. rust/crate/src/level.rs says what a level is. rust/make.sh runs this script.
 """
 import collections
 import pathlib
@@ -170,7 +173,7 @@ class Eraser:
         self.vectors = VECTOR
 
     def know(self, source):
-        """Finds the structs of a source that have vectors."""
+        """Adds the structs of a source that have vectors to `vectors`."""
         structs = re.findall(r"\bstruct (\w+)[^;{]*(\{[^}]*\}|;)", source)
         found = None
         while found != self.vectors:
@@ -310,7 +313,8 @@ class Eraser:
         return tokenize("".join(out))
 
     def call(self, tokens, at, rest, root, depth):
-        """Returns the end of a form that begins at `at`, and what it becomes, or None."""
+        """Returns the end of a form that begins at `at`, and what it becomes, or None. `rest` is
+        the text of the next tokens."""
         def inside(start, end):
             return "".join(self.calls(tokens[start:end], depth))
 
@@ -368,14 +372,14 @@ class Eraser:
         return None, None
 
     def part(self, tokens, at, inside):
-        """`&a.b[c..d]` is a call of the shim, if nothing is called of what is in the brackets."""
+        """Makes `&a.b[c..d]` a call of the shim, unless `.`, `[` or `?` follows it."""
         is_mutable = tokens[at + 1] == "mut"
         start = at + 3 if is_mutable else at + 1
         bracket = start
         while WORD.fullmatch(tokens[bracket]) and tokens[bracket + 1] == ".":
             bracket += 2
         bracket += 1
-        # The rule on tables is for those, whose names are in capitals.
+        # A name in capitals is a constant. The rule on tables needs its borrows as they are.
         is_variable = WORD.fullmatch(tokens[start]) and not tokens[start].isupper()
         if not is_variable or tokens[bracket] != "[":
             return None, None
@@ -387,7 +391,8 @@ class Eraser:
         return end + 1, f"{''.join(tokens[start:bracket])}.{name}({inside(bracket + 1, end)})"
 
     def append_loop(self, tokens, at):
-        """`for a in b { out.push_reserved(*a); }`, or `for _ in 0..count` with one value."""
+        """Makes `for a in b { out.push_reserved(*a); }`, or `for _ in 0..count` with one value, one
+        call of the shim."""
         body = at
         while tokens[body] != "{":
             body += 1
@@ -404,7 +409,7 @@ class Eraser:
         return None, None
 
     def shuffle(self, tokens, at, depth):
-        """`a.shuffle::<M>(b, POSITIONS)` names a type that has the positions."""
+        """Replaces the positions in `a.shuffle::<M>(b, POSITIONS)` by a type that has them."""
         self.use("constant lanes")
         angle = closing_angle(tokens, at + 3)
         width = "".join(tokens[at + 4:angle]).strip()
@@ -461,15 +466,18 @@ class Eraser:
 
     @staticmethod
     def is_width(name, item):
-        """Whether a parameter is passed on as one, as to `Simd<u8, N>`, and not as in `[u8; N]`."""
+        """Whether a parameter is passed on as a width, as to `Simd<u8, N>`, not as in `[u8; N]`."""
         return bool(re.search(rf"[<,]\s*{name}\s*>", item))
 
     def functions(self, tokens):
-        """Puts the body of each function into one of its level, unless it is always inlined and has
-        vectors in its signature.
+        """Puts the body of each function into an inner function with the features of its level,
+        which `at_level!` (level.rs) defines and calls.
 
-        `at_level!` of the shim makes that one, and calls it. A method is inlined instead.
+        A method is inlined instead, and so is a function that Rattle always inlines and that has
+        vectors in its signature.
         """
+        # `open_items` has a word for each open brace, `item` the tokens since the last brace or
+        # semicolon, and the attributes of the next item begin in `out` at `start`.
         out, at, open_items, item, start = [], 0, [], [], None
         while at < len(tokens):
             token = tokens[at]
@@ -568,7 +576,7 @@ class Eraser:
 
     @staticmethod
     def kind(signature, body):
-        """Returns what an inlined function is that passes no vector."""
+        """Returns the rule for a function that Rattle always inlines and that passes no vector."""
         if "&mut" not in signature:
             return "reader"
         is_loop = "while" in body or "for" in body
@@ -623,7 +631,7 @@ class Eraser:
         return text
 
     def shim_file(self, text, depth):
-        """Returns a file that has the shim's functions with the names of this one's."""
+        """Returns a file that exports the shim's functions with the names of this file's."""
         self.use("kit")
         head = "".join(line + "\n" for line in text.split("\n") if line.startswith("//!"))
         names = ", ".join(re.findall(r"^pub fn (\w+)", text, re.M))
@@ -643,7 +651,7 @@ class Eraser:
                 raise Unknown(f"{token!r} in line {line} of what is left")
 
     def with_imports(self, text, depth):
-        """Imports what Rattle's prelude has, and what the rule on widths names."""
+        """Imports what Rattle's prelude has, and what the rewritten code uses of the shim."""
         code = re.sub(r"//[^\n]*", "", text)
         names = [name for name in ("Vec", "String") if re.search(rf"\b{name}\b", code)]
         uses = [f"alloc::{name.lower()}::{name}" for name in names]

@@ -5,7 +5,7 @@
 # FOLDER gets cesu8_rattle-VERSION.crate and simd_cesu8-1.2.0.crate, and their names are printed. A
 # .crate is an archive as cargo makes it, with one folder. Two runs give the same bytes.
 #
-# It needs python3, GNU tar, gzip, bash, find and the core utilities, but no Rust.
+# It needs python3, GNU tar, gzip, bash, find, grep and the core utilities, but no Rust.
 set -euo pipefail
 unset CDPATH
 export LC_ALL=C

@@ -43,7 +43,7 @@ look_at_files() {
         wrong 'these lines are about the programs'
 }
 
-# The names that the archive defines, and those that it requires. Each export is a function of
+# Tests which names the archive defines, and which it requires. Each export is a function of
 # chooser.c that calls the code for ARMv8-A, the only level; that code has the same name with `_v8`
 # after it. The archive requires nothing that depends on the processor's features.
 look_at_archive() {

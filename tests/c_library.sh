@@ -7,7 +7,7 @@ exports() {
     sed -n 's/^pub extern "C" fn cesu8_\([a-z0-9_]*\).*/\1/p' "$crate"/src/*.rt
 }
 
-# Prints the functions of the archive that are written in C, also without `cesu8_`.
+# Prints the functions of plain.c, which the archive has too, also without `cesu8_`.
 plain_calls() {
     sed -n 's/^[a-z].*cesu8_\([a-z0-9_]*\)(.*)$/\1/p' "$crate/plain.c"
 }

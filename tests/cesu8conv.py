@@ -172,8 +172,8 @@ PARTS = [b"\xc3\xa9", b"\xe2\x82\xac", PAIR, b"\xf0\x9f\x92\x96", b"\0", b"\xc0\
 
 
 def each_edge():
-    """A part from 0 to 8 bytes before the end of each of the first two windows in a file, and
-    before the end of the first window in a pipe."""
+    """Tries each part at 0 to 8 bytes before the end of each of the first two windows in a file,
+    and before the end of the first window in a pipe."""
     for part, back, edge in itertools.product(PARTS, range(9), (WINDOW, 2 * WINDOW)):
         data = (b"0123456789abcde\n" * (edge // 16))[: edge - back] + part + b"\nend"
         for command, flavor in (("mixed --lossy", "cesu8"), ("decode", "mutf8"), ("encode", "cesu8")):
@@ -187,7 +187,7 @@ def each_edge():
 
 
 def each_byte():
-    """All parts in pairs, from a pipe that gives one byte at a time."""
+    """Tries all parts in pairs, from a pipe that gives one byte at a time."""
     for first, second in itertools.product(PARTS, PARTS):
         data = b"a\n" + first + second
         for command in COMMANDS:
@@ -197,7 +197,7 @@ def each_byte():
 
 
 def chance():
-    """Random sequences of the parts and of text."""
+    """Tries random sequences of the parts and of text."""
     source = random.Random(97)
     for _ in range(60):
         data = b"".join(source.choice(PARTS + [b"text\n", b"\xce\xbb"]) for _ in range(source.randrange(20000)))

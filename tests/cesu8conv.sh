@@ -7,14 +7,15 @@
 #   tests/cesu8conv.sh --large  also 2^32 + 1 bytes from a pipe, and the speed beside `cat`
 #
 # It prints what is wrong, and the counts at the end. The status is 0 if nothing is wrong. It needs the
-# kit's `rt`, bash, awk and the core utilities, and for calls that move one byte a C compiler and nm.
+# kit's `rt`, bash, grep, sed and the core utilities, and for calls that move one byte a C compiler
+# and nm.
 # PROVED_CESU8CONV names a program that is proved already.
 # shellcheck source=tests/lib.sh
 source "$(dirname "${BASH_SOURCE[0]}")/lib.sh" || exit 2
 
 program=${PROVED_CESU8CONV:-$top/crates/cesu8conv/out/cesu8conv}
 
-# `rt run` leaves the program in out/, as for the other program in tests/program.sh.
+# Builds the program by `rt run`, which leaves it in out/, unless it is proved already.
 build_conv() {
     [[ -z ${PROVED_CESU8CONV-} ]] || return 0
     # shellcheck source=tests/kit.sh
@@ -153,7 +154,8 @@ try_messages() {
     gives '--fail-on-damage without damage' 0 a ''
 }
 
-# A pair is cut between two files, and damage is reported by its line and offset in its own file.
+# A pair is cut between two files: `decode` joins it, and `check`, which reads each file by itself,
+# reports both parts. Damage is reported by its line and offset in its own file.
 try_files() {
     cd "$scratch" || exit 2
     printf 'one\n\xED\xA0' >one
@@ -253,7 +255,7 @@ mixed_text() {
     for ((i = 0; i * size < $1; i++)); do cat "$block"; done
 }
 
-# A reader and a writer that move one byte a call, whatever the program asks for.
+# Runs the program with a `read` and a `write` that move one byte a call, whatever it asks for.
 try_short_calls() {
     if ! can_build_c 'calls that move one byte'; then return; fi
     local input="a$pair$heart\\xE2\\x82\\xACb\\xFFc" wanted="a$heart$heart\\xE2\\x82\\xACb\\xEF\\xBF\\xBDc"

@@ -3,8 +3,8 @@
 #   tests/clauses.sh            compares, and prints what is wrong and then the counts
 #   tests/clauses.sh --write    writes tests/clauses.txt again from the sources
 # It checks that
-# - docs/PROVED.md names each public clause and no other, and its words contain the names, numbers
-#   and errors of the clauses beside them (tests/words.awk);
+# - docs/PROVED.md names each public clause and no other, and its words agree with the clauses
+#   beside them in names, numbers and errors (tests/words.awk);
 # - each clause and law that README.md names is in the sources, and so is each function that a page
 #   passes to `rt check`;
 # - a public function has an `ensures` and no `requires`;
@@ -149,7 +149,8 @@ sources() {
     awk -F '\t' '$3 !~ /^!/ { print $1, $2, $3 }' "$scratch/items" | sort -u >"$scratch/sources"
 }
 
-# Notes public functions that have a requirement, or no contract.
+# Notes public functions that have a requirement or no `ensures`, text that contracts.awk cannot
+# read, and exports in modules that are not public.
 rules() {
     told '!requires' | none 'a public function requires something of its caller'
     told '!none' | none 'public, and without a contract'

@@ -3,7 +3,7 @@
 # than arguments and bytes. It compares the status, standard output and standard error, and prints each case
 # that is wrong, and the counts at the end. The status is 0 if no case is wrong.
 #
-# It needs the kit's `rt`, bash and the core utilities.
+# It needs the kit's `rt`, bash, sed and the core utilities.
 # shellcheck source=tests/lib.sh
 source "$(dirname "${BASH_SOURCE[0]}")/lib.sh" || exit 2
 
@@ -193,7 +193,7 @@ folder_as_input() {
     expect_bytes 'a folder as standard input' $? 4 '' "$device_failed"
 }
 
-# At any position, and with any number of arguments.
+# An argument that is not UTF-8 is an error at any position, and with any number of arguments.
 argument_not_utf8() {
     local words
     for words in "encode $bad_word" "$bad_word cesu8" "$bad_word" "encode cesu8 $bad_word"; do
@@ -203,7 +203,8 @@ argument_not_utf8() {
     done
 }
 
-# These runs read nothing, so their input goes to the output. Empty arguments are among the cases.
+# The program reads nothing if its arguments are wrong. So `cat` then copies the whole input to the
+# output. Empty arguments are in tests/cli_cases.txt.
 many_words() {
     local words
     read -r -a words < <(yes encode cesu8 | head -n 500 | tr '\n' ' ')
@@ -225,7 +226,7 @@ full_error() {
     expect_bytes 'standard error to a full device' $? 2 '' ''
 }
 
-# The input that the program does not read goes to the output.
+# The program does not read the input, so `cat` then copies all of it to the output.
 unread_input() {
     printf 'a\xC8\x85' >"$scratch/input"
     {
@@ -357,15 +358,17 @@ java_strings() {
     expect_bytes 'a text too long for a Java string' "$status" 1 '' 'cesu8: text is too long'
 }
 
-# Runs on parts of whole lines, as the man page shows for a dump that is larger than memory.
+# Runs on parts of whole lines, by the command in `in_parts`, as for a dump that is larger than
+# memory.
 run_in_parts() {
     (cd "$scratch" && program="'$program'" && eval "$in_parts") 2>"$scratch/error"
     status=$?
     mv "$scratch/text" "$scratch/output"
 }
 
-# Lines with characters of six bytes, so that each part ends at another offset of its last line. Then a line
-# that is longer than a part and is cut within a surrogate pair: nothing of it is written.
+# A dump of two parts: the limit of 16 MiB is within a surrogate pair, so the first part ends with
+# the line before that. Then a line that is longer than a part and is cut within a surrogate pair:
+# nothing of it is written.
 large_dump() {
     local in_parts pair='\xED\xA0\xBD\xED\xB2\x96'
     # shellcheck disable=SC2016

@@ -5,7 +5,7 @@
 # the crate, such as `mutf8::`, or nothing. tests/clauses.sh runs this and compares the lines.
 # A public function has a line with the clause `!fn`, and one for each clause of its contract: the
 # clause's name, or a dash if it has none. A requirement has the clause `!requires`, and a function
-# without a contract also has `!none`. An implementation of a trait has its ghost members as
+# without `ensures` also has `!none`. An implementation of a trait has its ghost members as
 # clauses, and `!none` if it has methods but no such member. Any other public item has the clause
 # `!item`, and text that this program can't read has `!unread`.
 

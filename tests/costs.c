@@ -19,7 +19,8 @@
 
 enum { MOST_CALLS = 8, PAGE = 4096 };
 
-// How often a call on many texts repeats them, so that the one test for UTF-8 costs little in comparison.
+// A call on many texts tests all of them for UTF-8 once, and then goes through them this often, so that
+// the test costs little in comparison.
 enum { TIMES = 4 };
 
 typedef struct measured_outcome one_call(const uint8_t *, size_t, uint8_t *, size_t);
@@ -492,7 +493,7 @@ static size_t make(const struct call *call, struct inputs inputs)
     return inputs.count;
 }
 
-// Counts a call, and returns how many results are wrong.
+// Makes a call three times, the last time while callgrind counts, and returns how many results are wrong.
 static size_t count(const struct call *call, struct inputs inputs, enum outcome outcome)
 {
     size_t wrong = 0;

@@ -22,11 +22,11 @@
 # rounds are counted, with the program's own work in them: the cost of a run without rounds, which only
 # makes the inputs, is subtracted. For workloads the C library is counted separately.
 #
-# Both are built for x86-64-v2 and x86-64-v3; the builds for x86-64-v2 remain in out/. In a clean clone
-# the script first proves the libraries. After that it takes some two minutes of one processor. Without
-# valgrind or a C compiler it skips everything, and on a processor without AVX2 it skips x86-64-v3; it
-# says so. The status is 0 if nothing is wrong. It needs the kit's `rt`, valgrind, `cc`, objcopy, bash,
-# awk and the core utilities.
+# Calls and workloads are built for x86-64-v2 and x86-64-v3; the builds for x86-64-v2 remain in out/. In
+# a clean clone the script first proves the libraries. After that it takes some two minutes of one
+# processor. Without valgrind or a C compiler it skips everything, and on a processor without AVX2 it
+# skips x86-64-v3; it says so. The status is 0 if nothing is wrong. It needs the kit's `rt`, valgrind,
+# `cc`, objcopy, bash, awk and the core utilities.
 # shellcheck source=tests/lib.sh
 source "$(dirname "${BASH_SOURCE[0]}")/lib.sh" || exit 2
 # shellcheck source=tests/kit.sh

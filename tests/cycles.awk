@@ -1,7 +1,7 @@
 # Prints the modules of a crate that import one another, directly or through others, one a line:
 #   awk -f cycles.awk crates/CRATE/src/FILE.rt...
 # tests/layers.sh runs it. It reads the `use` statements, except those of tests, which are at the
-# end of a file. The root is `crate`.
+# end of a file. A module is named by its path from `crate`, the root.
 
 FNR == 1 {
     here = FILENAME
@@ -33,6 +33,7 @@ END {
         count = split(uses[module[i]], part, ";")
         for (j = 1; j < count; j++) expand(module[i], "", part[j])
     }
+    # Adds to `reaches` what a module imports through others.
     for (k = 1; k <= modules; k++)
         for (i = 1; i <= modules; i++) if ((module[i], module[k]) in reaches)
             for (j = 1; j <= modules; j++) if ((module[k], module[j]) in reaches)

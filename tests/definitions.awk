@@ -3,14 +3,15 @@
 #   awk -f definitions.awk TEXTS FILE.rt... FILE.antt...
 # tests/clauses.sh runs it. TEXTS has the clauses; the .rt files import the names in them. Each
 # .antt file is a module of definitions, and specs/Lib.antt of a crate says which modules of others
-# it exports.
+# it exports. At the end it prints what some imported names mean (tell_meanings).
 
 FILENAME == ARGV[1] {
     cite($0)
     next
 }
 
-# A module of another crate that a crate exports under its own name.
+# A module of another crate that a crate exports: `handed_on` leads to it from the name that it has
+# as a module of the exporting crate.
 /^pub use [^{]*$/ && FILENAME ~ /\/Lib\.antt$/ {
     name = $3
     sub(/.*\./, "", name)
@@ -45,6 +46,8 @@ FILENAME ~ /\.rt$/ { next }
     defines(name)
     next
 }
+# Each equation, field and constructor begins a line, and a line with three spaces or more continues
+# it. A constructor's name stands for the definition too.
 {
     text[count] = text[count] (/^   / ? " " : "\n  ") substr($0, match($0, /[^ ]/))
     if (/^  [A-Z]/) defines(substr($0, 3))
@@ -142,8 +145,9 @@ END {
     tell_meanings()
 }
 
-# If a name has different meanings in different files, prints its meaning in each file that imports
-# it, so that no import can change what a clause means without changing a line.
+# Prints what an imported name means in each file, if the name alone does not say it: if it has
+# different meanings in different files, if it stands for an item of another name, or if it is that
+# of a module. So no import can change what a clause means without changing a line.
 function tell_meanings(    key, parts, item) {
     for (key in item_of) {
         split(key, parts, SUBSEP)
@@ -167,7 +171,8 @@ function means(name, what) {
     meanings[name]++
 }
 
-# Whether a file that imports a name has clauses or definitions in tests/clauses.txt.
+# Whether a file uses an imported name in what is printed: a .rt file if a clause cites the name, and
+# a module of definitions if one of its definitions is printed.
 function is_told(path, name) {
     return path ~ /\.rt$/ ? name in is_cited : path in is_used
 }

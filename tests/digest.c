@@ -1,11 +1,13 @@
 // Prints a line with a digest of the results of each call of the library for C on more than a million
 // inputs. tests/aarch64.sh compares the line on aarch64 with that on x86-64.
 //
-// An input has a length from 0 to 300. It consists of one of the texts below, and ends with a whole
-// character. At each offset it has three of the faults, in turn. The input and the buffer also
-// begin at odd addresses. The buffer is large enough for two of three inputs, and has half of that
-// for the third. Each input is passed to a quarter of the calls, in turn, since even these take an
-// emulator a minute. So each call gets an input of each length with a fault at each offset.
+// An input has a length from 0 to 300. It is one of the texts below, which ends with a whole
+// character, with a fault at an offset. For each offset there are three inputs, with different
+// faults. The input and the buffer also begin at odd addresses. The buffer is large enough for two
+// of three inputs, and has half of that for the third. Each input is passed to a quarter of the
+// calls, in turn, since even these take an emulator a minute. So each call gets inputs of each
+// length, with a fault at each offset, or at three of four offsets if the length is one less than a
+// multiple of four.
 
 #include "cesu8.h"
 
@@ -143,7 +145,8 @@ static void call_in_turn(const uint8_t *input, size_t length, uint8_t *buffer)
 }
 
 // Makes the calls on a text of this length, with faults at each offset, the last of them after the text.
-// By `turn` the faults and the addresses of a text differ from those of another one.
+// `turn` is another number for each text, so that texts have different faults and addresses at an
+// offset.
 static void look_at(size_t length, struct piece text, size_t turn)
 {
     static _Alignas(64) uint8_t input_room[ROOM], buffer_room[ROOM];

@@ -18,9 +18,9 @@
 # a path of this machine. It builds a commit of a copy of the tree, with what is proved here. In a clean
 # clone that takes minutes.
 #
-# If pkg-config, CMake, c++, clang, rustc, python3, man or java is missing, it says what it skipped. If a tool that
-# dist.sh needs is missing, it skips everything. The status is 0 if nothing is wrong. It needs the
-# kit's `rt`, bash, awk, grep, sed, readelf and the core utilities.
+# If pkg-config, CMake, c++, clang, rustc, python3, man or java is missing, it says what it skipped.
+# If a tool that release/dist.sh needs is missing, it skips everything. The status is 0 if nothing is
+# wrong. It needs the kit's `rt`, bash, awk, grep, sed, readelf and the core utilities.
 unset "${!GIT_@}"
 # shellcheck source=tests/lib.sh
 source "$(dirname "${BASH_SOURCE[0]}")/lib.sh" || exit 2
@@ -75,7 +75,7 @@ name_differences() {
     diff <(tar tvzf "$scratch/first/$name.tar.gz") <(tar tvzf "$scratch/second/$name.tar.gz")
 }
 
-# Builds twice, in folders with different names. The program is built once.
+# Builds twice, in folders with different names. `cesu8_cli` is built once.
 build_twice() {
     build
     export PROVED_PROGRAM=$program
@@ -125,7 +125,7 @@ look_at_files() {
         lib/libcesu8.a lib/libcesu8.so "$shared" lib/pkgconfig/cesu8.pc
         share/bash-completion/completions/cesu8_cli share/bash-completion/completions/cesu8conv
         share/man/man1/cesu8_cli.1 share/man/man1/cesu8conv.1 share/man/man3/cesu8.3 uninstall.sh)
-    # The pages of single calls are tested with the calls.
+    # The man pages of single calls are left out, since look_at_call_pages tests them.
     (cd "$unpacked" && find . ! -type d ! -name 'cesu8_*.3' -printf '%P\n' | sort) >"$scratch/files"
     diff <(printf '%s\n' "${wanted[@]}") "$scratch/files" || wrong 'the release has other files'
     [[ $(readlink "$unpacked/lib/libcesu8.so") == "libcesu8.so.$major" ]] ||

@@ -7,7 +7,8 @@
 // the end. The status is 0 if none is wrong.
 //
 // With -DARCHIVE it tests the archive of archive.sh and the shared object: inputs and buffers of length 0
-// are null pointers too, and it also makes the calls that are written in plain C.
+// are null pointers too, which only chooser.c accepts, and it also makes the calls that are written in
+// plain C.
 
 #define _DEFAULT_SOURCE
 
@@ -395,7 +396,7 @@ static const struct row rows[] = {
 // The size of a block, which is between two pages that no call may access.
 enum { SPACE = 204800, FILLING = '~' };
 
-// The bytes of a call, at the start of their block or at its end.
+// Memory for the input or the buffer of a call, which is placed at its start or at its end.
 struct block {
     char *start;
 };
@@ -731,7 +732,8 @@ static const struct joined_row joined_rows[] = {
 };
 
 // Converts the input in pieces of `step` bytes, with a buffer of `m` bytes for each call, and compares the
-// whole output.
+// whole output. A call gets the bytes from `at`, up to which the calls before have read, to `end`, the
+// end of the newest piece.
 static bool converts_joined(const struct joined_row *row, size_t step, size_t m)
 {
     uint8_t output[256];

@@ -11,8 +11,8 @@
 # builds and runs all callers.
 #
 # If there is no C or C++ compiler or no clang, it says what it skipped. The status is 0 if nothing is
-# wrong. In a clean clone it first proves the libraries, with one job, since several jobs take more
-# processor time.
+# wrong. In a clean clone it first proves the libraries, with as many jobs as PROOF_JOBS says, or else
+# as `rt` chooses.
 #
 # It needs the kit's `rt`, bash, awk, grep, sed and the core utilities, and the compilers `cc`, `c++`,
 # `clang` and `clang++` for what they compile.

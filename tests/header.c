@@ -2,8 +2,8 @@
 // tests/exports.sh compiles it as C and as C++, with all warnings of the compilers, and never runs
 // it.
 //
-// With -DWRONG=N it has one of the faults about which a compiler with the header's attributes
-// warns. tests/exports.sh lists the numbers for each attribute.
+// With -DWRONG=N it has one of the faults about which a compiler warns if it knows the header's
+// attributes. tests/exports.sh lists the numbers for each attribute.
 
 #include "cesu8.h"
 

@@ -1,6 +1,6 @@
 #!/usr/bin/env bash
-# Runs the built program with every command on 64 MB of each kind of hostile bytes. The variable
-# `table` has the expected results. Output is compared byte for byte.
+# Runs the built program `cesu8_cli` with every command on 64 MB of each kind of hostile bytes. The
+# variable `table` has the expected results. Output is compared byte for byte.
 #
 # Each run has a memory limit: the vector that has grown to hold the input (the next power of two),
 # the one allocation of the output, and a fifth more. tests/requests.sh tests runs that lack memory.

@@ -116,8 +116,8 @@ install_beside() {
     uninstall "$folder/to/prefix"
 }
 
-# After two installations, with the libraries in two folders, one run removes everything. Of the
-# first run's output, only a line is read.
+# After two installations, with the libraries in two folders, one run of uninstall.sh removes
+# everything. `head` reads only one line of what the first installation prints.
 install_twice() {
     local prefix=$scratch/twice
     "$unpacked/install.sh" "$prefix" | head -n 1 >"$scratch/said"

@@ -82,7 +82,8 @@ laws() {
     ' "$@"
 }
 
-# The names of other crates that the files on standard input use and must not, one a line.
+# Prints what the files on standard input name and must not, one a line. `is_word` is whether a line
+# can be part of a contract, a ghost item or a definition.
 wrong() {
     local file crate
     while read -r file; do

@@ -1,6 +1,6 @@
 # What the scripts of tests/ share. A script sources this file first. It sets
 # - `top`, the repository's folder, and `scratch`, a folder for its files, removed at the end;
-# - `program`, and the function `build`, from tests/program.sh;
+# - `program`, the built `cesu8_cli`, and the function `build`, from tests/program.sh;
 # - `passed` and `failed`, which the functions below count.
 # It needs bash and the core utilities.
 # shellcheck shell=bash disable=SC2034
@@ -59,9 +59,8 @@ shown() {
     echo "$(stat -c %s "$1") bytes:$(od -An -v -tx1 -N 60 -w60 "$1")"
 }
 
-# Counts whether a run ended with this status, wrote what a file holds, and printed this line to
-# standard error, or nothing if it is empty: `expect_run WHAT STATUS LINE FILE`. It reads what `run`
-# stored.
+# Counts whether a run ended with STATUS, wrote what FILE holds, and printed LINE to standard error,
+# or nothing if LINE is empty: `expect_run WHAT STATUS LINE FILE`. It reads what `run` stored.
 expect_run() {
     local told='' differs=''
     [[ $status == "$2" ]] || differs+=$'\n'"  status: $status, and not $2"
@@ -118,8 +117,8 @@ quietly() {
     return 1
 }
 
-# Whether a compiler can build a program: `can_build WHAT COMPILER ARGUMENT..`. If it can't, WHAT is
-# skipped.
+# Whether a compiler or another tool succeeds with these arguments. If not, it prints that WHAT is
+# skipped: `can_build WHAT TOOL ARGUMENT..`.
 can_build() {
     local what=$1
     shift

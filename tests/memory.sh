@@ -14,18 +14,19 @@
 # - an empty copy, a length, a comparison, a result in a slice, a piece, and a Java string that is too
 #   long or truncated allocate nothing.
 #
-# The proved program of crates/memory_calls makes the calls that its standard input names, on one input. It
-# prints each result, and how many of three further allocations succeed before one fails. tests/requests.c,
-# which is loaded between the program and the C library, makes one allocation of a process fail: here always
-# the third of `main`. How many `main` makes before the calls decides which one of a call that is.
-# (`rt try` could do that without proof, but takes a tenth of a second for each process.)
+# The proved program of crates/memory_calls makes the calls that its standard input names, on one
+# input. It prints each result, and how many of three further allocations succeed before one fails.
+# tests/requests.c, which is loaded between the program and the C library, makes one allocation of a
+# process fail: here always the third after the start of `main`. Before the calls, `main` makes up to
+# two allocations itself, and their number decides which allocation of the calls is the third. (`rt
+# try` could run the program without proof, but takes a tenth of a second for each process.)
 #
 # Each allocation of a call fails in turn. Then the call must return out of memory for any input, a
-# caller's buffer must keep its content, and what a failed copy borrows must still be there. Each call is
-# also made so that the first allocation after its own fails, and must succeed. So it makes exactly as
-# many allocations as its row says. One process tests both with two calls on an input: the first makes
-# all of its allocations, and that of the next fails. Calls without an allocation are made between them.
-# A test that several rows have in common is made once.
+# caller's buffer must keep its content, and what a failed copy borrows must still be there. Each call
+# must also succeed if the first allocation after its own fails. So it makes exactly as many
+# allocations as its row says. One process tests both with two calls on an input: the first makes all
+# of its allocations, and the first allocation of the second fails. Calls without an allocation are
+# made between them. A test that several rows have in common is made once.
 #
 # The script does not see in which order a call allocates, nor what it has read or written before. A
 # clause states the capacity of what is built, and tests/requests.sh sees how much is allocated for input
@@ -397,8 +398,8 @@ short_rows() {
     row 'into_string cesu8' "$utf8" owned 1 "$utf8"
 }
 
-# Each scalar value of test_cases, and two texts with it that are appended: to an empty buffer with enough
-# space, and after other bytes.
+# Each scalar value of test_cases is encoded and measured. Two texts, each with a surrogate pair, are
+# also copied and appended.
 scalar_rows() {
     local name
     for name in "${scalars[@]}"; do
@@ -426,8 +427,8 @@ other_rows() {
     row 'faults mutf8' '\x00' "$all" 1 ''
 }
 
-# Inputs of this length: only letters; letters that end in a character that an encoding changes; with
-# such a character across the length; and with damage that ends there.
+# Inputs of this length: only letters, letters and then a character that an encoding changes, and
+# letters and then damage. Also a longer input, with such a character across this length.
 border_rows() {
     local length=$1 front=$(($1 > 3 ? $1 - 3 : $1))
     text "$length" a
@@ -567,8 +568,9 @@ run_case() {
         2>"$scratch/said" 9>"$scratch/requests"
 }
 
-# Sets `refused` to the number of the third allocation of `main`. The call here allocates nothing,
-# so `main` makes only the three at its end, and the third is the last one of the process.
+# Sets `refused` to the number of the third allocation after the start of `main`. The call here
+# allocates nothing, so `main` makes only the three at its end, and the third is the last one of the
+# process.
 find_refused() {
     printf '0 utf16_len cesu8\na' >"$scratch/cases/none"
     run_case 0 none || { cat "$scratch/said"; exit 2; }

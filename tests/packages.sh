@@ -234,7 +234,7 @@ remove_packages() {
 }
 
 use_packages() {
-    # Where the loader finds the shared object.
+    # The loader looks for the shared object there.
     export LD_LIBRARY_PATH=$root/$libdir
     by_flags 'keys.c with the static library' -I "$root/usr/include" "$root/$libdir/libcesu8.a"
     wants_shared "$scratch/example" && wrong 'the static library is not linked'
@@ -269,7 +269,7 @@ look_by_lintian() {
     quietly lintian --allow-root --fail-on error "${files[@]}" || wrong 'lintian finds errors'
 }
 
-# Tests the packages for arm64 together with those for amd64.
+# The packages for arm64, which are tested together with those for amd64.
 cross_names=("libcesu8-$major" libcesu8-dev)
 cross_libdir=usr/lib/aarch64-linux-gnu
 
@@ -361,7 +361,7 @@ install_both() {
 use_cross_packages() {
     local flags=("-DCMAKE_PREFIX_PATH=$root/usr" -DCMAKE_SYSTEM_NAME=Linux -DCMAKE_SYSTEM_PROCESSOR=aarch64
         "-DCMAKE_C_COMPILER=$AARCH64_CC")
-    # Where the loader finds the shared object.
+    # The loader looks for the shared object there.
     emulator+=(-E "LD_LIBRARY_PATH=$root/$cross_libdir")
     by_flags 'keys.c for arm64' -I "$root/usr/include" -L "$root/$cross_libdir" -lcesu8
     wants_shared "$scratch/example" || wrong 'the shared object for arm64 is not linked'

@@ -1,5 +1,5 @@
 #!/usr/bin/env bash
-# Compares the program with other implementations, if they are installed:
+# Compares the program `cesu8_cli` with other implementations, if they are installed:
 # - for Java strings and MUTF-8 with the JDK's `writeUTF` and `readUTF`;
 # - for CESU-8 with the JDK's charset CESU-8, and with ICU's `uconv`.
 # For each text the program has to write the same bytes as they do, and each has to read what the

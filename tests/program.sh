@@ -1,5 +1,5 @@
-# The built program, for the scripts that run it. A script sources this file, and first sets `top`,
-# the repository's folder, and `scratch`, a folder for the output of the build.
+# The built program `cesu8_cli`, for the scripts that run it. A script sources this file, and first
+# sets `top`, the repository's folder, and `scratch`, a folder for the output of the build.
 # shellcheck shell=bash disable=SC2154
 
 # The gate sets PROVED_PROGRAM to the program that it has proved, so that it is not proved again.

@@ -1,5 +1,5 @@
 #!/usr/bin/env bash
-# Makes allocations of the built program fail, for every command.
+# Makes allocations of the built program `cesu8_cli` fail, for every command.
 #
 # First each of its allocations fails in turn, until a run makes fewer. If an allocation for the
 # arguments fails, the program must report failed input or output, as docs/PROGRAM.md says of status

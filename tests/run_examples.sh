@@ -55,10 +55,11 @@ in_class_file() {
     echo 'class_constants.c was built and run'
 }
 
-# Files that class_constants.c has to reject, after the strings that it printed: one with a string
-# that is cut off, files that are cut off between two constants and within one, and files that begin
-# with other bytes. Another file's only string is as long and as damaged as possible. The allocator
-# fills new memory with 01, which would be read as more constants.
+# Files that class_constants.c has to reject, after it printed the strings before the fault: one with
+# a string that is cut off, files that are cut off between two constants and within one, and files
+# that begin with other bytes. Another file, which it has to accept, has only one string, as long and
+# as damaged as possible. The allocator fills new memory with 01, which would be read as more
+# constants.
 in_damaged_class_files() {
     local file=$scratch/damaged.class whole=$scratch/constants.class magic marks
     export MALLOC_PERTURB_=254

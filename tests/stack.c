@@ -7,8 +7,8 @@
 // writes is not seen.
 //
 // The inputs are the texts below, repeated up to several lengths, each without a fault and with
-// each fault at the start, in the middle and at the end. The lengths cover each way in which the
-// library decodes. The buffer is large enough, or half as long as the input.
+// each fault at the start, in the middle and at the end. The lengths cover each strategy by which
+// the library decodes. The buffer is large enough, or half as long as the input.
 //
 // Link it with `-z now`: otherwise the first call of `memcpy` goes through the loader, which uses
 // more.
@@ -22,9 +22,9 @@
 #include <sys/mman.h>
 #include <ucontext.h>
 
-// WORDS is the size of that stack, and PAGE that of the memory below it, which cannot be written: a
-// multiple of every page size. ROOM is enough for each result: lossy decoding writes at most three
-// bytes for one, and a Java string has at most 65,535 bytes.
+// WORDS is the size of that stack, in words of eight bytes, and PAGE that of the memory below it, in
+// bytes, which cannot be written: a multiple of every page size. ROOM is enough for each result: lossy
+// decoding writes at most three bytes for one, and a Java string has at most 65,535 bytes.
 enum { WORDS = 4096, PAGE = 65536, LONGEST = 5000, ROOM = 3 * 65535 };
 
 static const uint64_t PATTERN = 0xA5C3965A3C69F00F;
@@ -183,7 +183,7 @@ static void measure(call *function, size_t *most)
     }
 }
 
-// The most that a call uses for all inputs.
+// The most that a call uses for any of the inputs.
 static size_t most_of(call *function, bool is_java)
 {
     size_t most = 0;

@@ -105,7 +105,8 @@ look_at_module() {
         wrong "$1 exports the wrong names"
     functions_of "$1" >"$scratch/functions"
     (($(wc -l <"$scratch/functions") > 15)) || wrong "$1 has too few functions"
-    # The compiler's runtime adds two, which detect the processor's features.
+    # The compiler's runtime adds two, which detect the processor's features and begin at multiples of
+    # 16.
     grep -v '[02468ace]0$' "$scratch/functions" >"$scratch/misplaced"
     (($(wc -l <"$scratch/misplaced") < 4)) ||
         wrong "functions of $1 do not begin at multiples of 32 bytes: $(xargs <"$scratch/misplaced")"

@@ -11,7 +11,7 @@
 # - the words say that an error becomes a case, and no clause gives that case.
 # Nothing else of the words is compared.
 
-# The lines of clauses.txt: of a public item by its crate and name, of a definition by its name.
+# Reads clauses.txt, and keeps each line by its crate and the name of its item or definition.
 FNR == NR && /^#/ { next }
 FNR == NR {
     crate = $1
@@ -223,8 +223,8 @@ function compare_both_ways(place, rest, name) {
     }
 }
 
-# Checks the statuses of the exports for C. If the words name several, they name each that the row's
-# text says both ways. A status may have a row of its own instead.
+# Checks the statuses of the exports for C. If the words name several, they have to name each for
+# which the row's text has an equivalence. A status may have a row of its own instead.
 function compare_statuses(place, rest, name, count) {
     rest = words
     while (match(rest, /`[A-Z][A-Z_0-9]+`/)) {
@@ -243,7 +243,7 @@ function compare_statuses(place, rest, name, count) {
 }
 
 # Checks a list of cases. If a clause cites a definition that holds for all cases of a type except
-# some, and the words name one of these cases, they name all.
+# some, and the words name a case for which it holds, they have to name all of these.
 function compare_listed(place, rest, name, head, type, body, list, count, i, is_listed, lacks, is_seen) {
     rest = named
     while (match(rest, /[A-Z][A-Za-z]+/)) {

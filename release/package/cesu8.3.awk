@@ -1,8 +1,8 @@
-# Makes the man page of the calls from the header's comments:
+# Makes the man page of the calls from the header's comments, for release/dist.sh:
 #   awk -v version=VERSION -v day=DAY -f cesu8.3.awk cesu8.h
 
-# The lines before the enum, and later preprocessor directives, are left out. The patterns are the first
-# words of the comments at which the parts of the header begin.
+# The lines before the enum, the definition of CESU8_SIZE and the lines after the calls are left
+# out. The patterns are the first words at which the parts of the header begin.
 /^enum cesu8_status/ { in_types = 1 }
 /^\/\/ Every input and every buffer/ { in_types = 0; in_words = 1 }
 /^\/\/ A number as a size_t/ { in_words = 0 }

@@ -45,7 +45,8 @@ $folders"
 done <<LIST
 $list
 LIST
-# In this order a folder comes before the one that contains it.
+# After each folder comes the one that contains it. That may also come earlier, when it is not yet
+# empty.
 while IFS= read -r folder; do
     rmdir "$prefix/$folder" 2>/dev/null || :
 done <<FOLDERS

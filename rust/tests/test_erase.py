@@ -1,4 +1,5 @@
-"""Each rule of the eraser (rust/erase.py) on a form that it knows, and forms that stop it.
+"""Tests each rule of the eraser (rust/erase.py) on a form of Rattle that it knows, and that forms
+that no rule knows stop it. The forms are in forms.txt.
 
     python3 rust/tests/test_erase.py
 """

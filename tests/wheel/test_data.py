@@ -19,6 +19,7 @@ import cesu8
 import model
 from test_codecs import HANDLERS
 
+# A Java string of four bytes, of which the second and the last are damaged.
 STRING = b"\0\x04a\xffb\xed"
 
 

@@ -85,7 +85,8 @@ class Random(unittest.TestCase):
         return cesu8.decode(self.random.choice((data, memoryview(data))), encoding, errors)
 
     def by_string(self, data: bytes, encoding: str, errors: str) -> str:
-        """The data as a string between others. In a bytearray, offsets count from its start."""
+        """Read as a Java string between other bytes. For a bytearray, the offset of an error counts
+        from the start of the string."""
         if encoding == "cesu-8" or errors == "cesu8.jump":
             return self.by_call(data, encoding, errors)
         front = self.random.randbytes(self.random.randrange(4))
@@ -97,7 +98,7 @@ class Random(unittest.TestCase):
         return text
 
     def in_two(self, data: bytes, encoding: str, errors: str) -> str:
-        """Decoded in two pieces, but only if no error is raised: its offset would differ."""
+        """Decoded in two pieces, but only if no error is raised: the error's offset would differ."""
         if errors == "cesu8.jump" or isinstance(model.decoded(data, encoding, errors), int):
             return self.by_call(data, encoding, errors)
         decoder = codecs.getincrementaldecoder(encoding)(errors)

@@ -21,7 +21,8 @@ ROWS += [bytes.fromhex(code) for code in tables.PATTERN[1:]]
 
 
 def splits(data: bytes) -> Iterator[list[bytes]]:
-    """Every way to cut the bytes into pieces; of long ones, into two, three or single bytes."""
+    """Every way to cut the bytes into pieces. More than ten bytes are cut only into one, two or three
+    pieces, and into single bytes."""
     inner = range(1, len(data))
     counts = range(len(data)) if len(data) <= 10 else (0, 1, 2, len(data) - 1)
     for count in counts:

@@ -11,8 +11,8 @@ static BYTES: [u8; 25] = [
     0, 1, 2, 3, 4, 5, 6, 7, 8, 9, 10, 11, 12, 13, 14, 15, 16, 17, 18, 19, 20, 21, 22, 23, 24,
 ];
 
-/// The number of bytes, the number of words that are tested, and these words, less the word at
-/// index 0 and followed by zeros.
+/// The number of bytes, the number of words that are tested, and these words, each as its
+/// difference from the word at index 0. The rest is zeros.
 static CASES: [(usize, usize, [u64; 4]); 7] = [
     (7, 0, [0, 0, 0, 0]),
     (8, 2, [0, 0, 0, 0]),
@@ -23,7 +23,7 @@ static CASES: [(usize, usize, [u64; 4]); 7] = [
     (25, 4, [0, 8 * ONES, 16 * ONES, 17 * ONES]),
 ];
 
-/// Notes a word that is tested, less the word at index 0.
+/// Notes a word that is tested, as its difference from the word at index 0.
 fn note(tested: &Cell<usize>, seen: &Cell<[u64; 4]>, word: u64) {
     let mut words = seen.get();
     if let Some(slot) = words.get_mut(tested.get()) {
@@ -33,8 +33,8 @@ fn note(tested: &Cell<usize>, seen: &Cell<[u64; 4]>, word: u64) {
     tested.set(tested.get().wrapping_add(1));
 }
 
-/// Whether a search finds something in so many bytes, and the number of words that it tests, and
-/// these words. Its fallback always returns true.
+/// Whether a search finds something in so many bytes, the number of words that it tests, and these
+/// words, as `note` notes them. Its fallback always returns true.
 fn search(len: usize) -> (bool, usize, [u64; 4]) {
     let tested = Cell::new(0usize);
     let seen = Cell::new([0u64; 4]);

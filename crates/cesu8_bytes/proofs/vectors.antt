@@ -1,5 +1,5 @@
--- Vectors that the encoder and the decoder use: loads, rows of eight lanes, packing, padding,
--- tables of shuffles, and counts.
+-- Vectors that the encoder and the decoder use: loads, eight lanes that one shuffle packs, packing,
+-- padding, tables of shuffles, and counts.
 pub mod Loads
 pub mod Rows
 pub mod Packing

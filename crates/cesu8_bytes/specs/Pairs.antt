@@ -10,8 +10,8 @@ pub record HasPair (bytes : List ℕ) : Type 0 where
   pub high : (0xA0 ≤ slice_index bytes 1) × (slice_index bytes 1 < 0xB0)
   pub ends : EndsPair (slice_index bytes 2) (slice_index bytes 3) (slice_index bytes 4) (slice_index bytes 5)
 
--- If these four bytes have the digits of a surrogate pair, `written` is the UTF-8 of its character.
--- The digits w, x, y and z are the bits that differ from pair to pair (`IsPair`).
+-- If these four bytes have the digits of a surrogate pair, `written` is the UTF-8 of its character
+-- c. The digits w, x, y and z are the bits that differ from pair to pair (`IsPair`).
 abbrev pub IsUtf8OfDigits : List ℕ → List ℕ → Type 0
 IsUtf8OfDigits four written = (c w x y z : ℕ) → IsPair c w x y z → four ≡ (0xA0 + w) ∷ (0x80 + x) ∷ (0xB0 + y) ∷ (0x80 + z) ∷ [] →
     written ≡ utf8_of c
@@ -20,7 +20,8 @@ IsUtf8OfDigits four written = (c w x y z : ℕ) → IsPair c w x y z → four �
 abbrev pub second_third_fifth_sixth : List ℕ → List ℕ
 second_third_fifth_sixth bytes = slice_index bytes 1 ∷ slice_index bytes 2 ∷ slice_index bytes 4 ∷ slice_index bytes 5 ∷ []
 
--- The word of eight bytes, the first in the lowest bits. The last two bytes are one number.
+-- The word of the bytes a, b, d, e, g and h, the first in the lowest bits, and of two more, which
+-- are one number.
 abbrev pub word_of : ℕ → ℕ → ℕ → ℕ → ℕ → ℕ → ℕ → ℕ
 word_of a b d e g h more =
     a + b * 0x100 + d * 0x10000 + e * 0x1000000 + g * 0x100000000 + h * 0x10000000000 + more * 0x1000000000000

@@ -10,7 +10,7 @@ pub record WritesAt (written : List ℕ) (at : ℕ) (old new : List ℕ) (n : �
   pub end : n ≡ at + length written
   pub len : length new ≡ length old
 
--- Bytes are written at an offset, where they fit, and all others are unchanged.
+-- Bytes are written at an offset and n is the offset after them. All other bytes are unchanged.
 pub record PutsAt (written : List ℕ) (at : ℕ) (old new : List ℕ) (n : ℕ) : Type 0 where
   pub writes : WritesAt written at old new n
   pub behind : drop n new ≡ drop n old

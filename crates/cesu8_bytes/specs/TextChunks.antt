@@ -6,8 +6,8 @@ use Rattle.cesu8_text.specs.Reading.{reading}
 use Rattle.cesu8_bytes.specs.declared.strictness.Strictness.{Strictness}
 use Rattle.cesu8_bytes.specs.declared.strictness.Strictness.TheVariants.{Strict}
 
--- The text decoded so far, whose UTF-8 was written after `old`, and the bytes that are left: `rest`
--- of all `bytes`.
+-- A decoder of `bytes` has decoded all but `rest` to `text`, and has written the UTF-8 of `text`
+-- after `old`.
 pub record IsReadSoFar (f : Flavor) (which : Strictness) (bytes rest old new : List ℕ) : Type 0 where
   pub text : List ℕ
   pub scalars : IsText text

@@ -1,12 +1,13 @@
-//! Fast paths: what a call checks inline, before it calls anything.
+//! Fast paths: what a call checks before it converts anything.
 //!
-//! Most strings in class files, tag files and keys are short ASCII. A public call inlines one of
-//! these checks and returns if it succeeds. All but the last have a size limit: beyond it, the
-//! check costs other input more than it saves ASCII.
+//! Most strings in class files, tag files and keys are short ASCII. So a public call first makes
+//! one of these checks, and returns at once if nothing has to be converted. The checks are inlined,
+//! but more than 256 bytes are searched by a call. All but the last have a size limit: beyond it,
+//! the check costs other input more than it saves ASCII.
 //!
 //! | limit (bytes) | check | used by |
 //! |---|---|---|
-//! | 256 | is all of it unchanged ASCII? | strict calls, `text_of` |
+//! | 256 | is all of it unchanged ASCII? | strict calls, `valid_up_to`, `text_of` |
 //! | 1,024 | is all of it ASCII? | lenient calls |
 //! | 64 | is a string inside a longer slice unchanged ASCII? | decoding of consecutive strings |
 //! | none | does any byte change in the encoding? | encoding |
@@ -27,7 +28,7 @@ use crate::lanes::search::{CHECKED_INLINE, any_in_bytes, any_in_bytes_or_call};
 use crate::lanes::short::are_short;
 use std::simd::prelude::*;
 
-/// The largest input that a lenient call checks inline for ASCII.
+/// The longest input that a lenient call first checks for ASCII.
 const TESTED_AT_ONCE: usize = 16 * LANES;
 
 /// Returns whether there are at most 1,024 bytes, all of them ASCII.

@@ -38,7 +38,7 @@ fn first_difference(bytes: &[u8], other: &[u8], len: usize) -> usize
     requires { (len ≤ length bytes.now) × (len ≤ length other.now) }
     ensures { IsFirstDifference bytes.now other.now len result }
 {
-    // The code that chooses a wider vector would cost more than that saves.
+    // A choice between more widths would cost more than wider vectors save.
     match len {
         0 => 0,
         1..8 => difference_by::<1>(bytes, other, len),

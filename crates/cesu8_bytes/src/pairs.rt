@@ -32,8 +32,9 @@ pub fn utf8_of_pair(bytes: &[u8]) -> [u8; PAIR_UTF8]
     requires { PAIR_READ ≤ length bytes.now }
     ensures { IsUtf8OfDigits (second_third_fifth_sixth bytes.now) result }
 {
-    // Adds the plane offset 10000 to the character: one more in the last four bits of the second
-    // byte. In a pair that byte is below B0, so nothing is carried.
+    // A pair encodes its character less 10000 (hexadecimal), and the last four bits of the second
+    // byte say how often 10000 fits. So this adds 1 to that byte. In a pair it is below B0, so
+    // nothing is carried to the third.
     let word = first_word(bytes).wrapping_add(0x100);
     // The leading bits of the four bytes, F0 80 80 80. Each term moves some of the character's bits
     // to their places.

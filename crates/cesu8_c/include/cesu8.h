@@ -110,7 +110,7 @@ struct cesu8_progress {
 //
 // No call allocates memory or keeps state, so any number of threads can call at the same time.
 
-// A number as a size_t, by the cast about which the compilers of the language do not warn.
+// A number as a size_t. Compilers of C++ can warn about the cast of C, so C++ has another one.
 #ifdef __cplusplus
 #define CESU8_SIZE(n) static_cast<size_t>(n)
 #else

@@ -24,7 +24,7 @@ status_for fact malformed state returned positive small is = (
   (λ holds. ap (status_of malformed) (is.1 holds)),
 )
 
--- The contract of an export that converts well-formed input.
+-- If a stream call that converts well-formed input meets its contract, so does its export.
 pub converts_piece : (from to : List ℕ → List ℕ) (widest malformed : ℕ) (bytes : List ℕ)
     (progress : stream_progress.Progress) (old new : List ℕ) → 0 < malformed → malformed < 6 →
     stream.ConvertsPiece from to widest bytes progress old new →
@@ -47,7 +47,8 @@ converts_piece from to widest malformed bytes progress old new positive small pi
     among OutputFull = inr (inr (inl refl))
     among Malformed = inr (inr (inr (inl refl)))
 
--- The contract of an export that replaces ill-formed bytes. Its state is never `Malformed`.
+-- If a stream call that replaces ill-formed bytes meets its contract, so does its export. The state
+-- of such a call is never `Malformed`.
 pub decodes_piece : (from reading : List ℕ → List ℕ) (is_last : Bool) (malformed : ℕ) (bytes : List ℕ)
     (progress : stream_progress.Progress) (old new : List ℕ) → 0 < malformed → malformed < 6 →
     stream_lossy.DecodesPiece from reading is_last bytes progress old new →

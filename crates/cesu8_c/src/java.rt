@@ -34,7 +34,8 @@ pub extern "C" fn cesu8_java_write(text: &[u8], buf: &mut [u8]) -> Answer
 pub extern "C" fn cesu8_java_read(bytes: &[u8], buf: &mut [u8]) -> Reading
     ensures { ReadsForm bytes.now result buf.old buf.new }
 {
-    // A law does nothing at run time: the proof uses its contract.
+    // A law does nothing at run time, but the proof uses its contract. This law says that bytes
+    // begin with a Java string exactly if they are its count, its MUTF-8 and the rest.
     java_text::laws::parts();
     match split_count(bytes) {
         Some((after, count)) => {

@@ -18,8 +18,8 @@ fn main(rt: HostRuntime) -> ExitCode {
     }
 }
 
-/// Passes the arguments to `run`. If there is no memory for them, this counts as a failed read too,
-/// as docs/PROGRAM.md says of status 4: `Memory` is only for what `run` allocates.
+/// Passes the arguments to `run`. If there is no memory for them, this counts as a failed read, as
+/// docs/PROGRAM.md says of status 4: `Memory` is only for what `run` allocates.
 fn run_words(rt: &HostRuntime) -> Result<(), RunFault> {
     let arguments = arguments(rt)?;
     let mut words = Vec::new(rt.alloc());
@@ -36,8 +36,8 @@ fn run_words(rt: &HostRuntime) -> Result<(), RunFault> {
     )
 }
 
-/// Returns the arguments after the program's name. If they are not available, this counts as a
-/// failed read.
+/// Returns the arguments after the program's name. If one is not UTF-8, or there is no memory for
+/// them, this counts as a failed read.
 fn arguments(rt: &HostRuntime) -> Result<Vec<String>, RunFault> {
     let Ok(all) = env::args(rt) else {
         return Err(RunFault::Io);

@@ -25,7 +25,8 @@ pub enum RunFault {
     Trailing,
     /// Memory could not be allocated.
     Memory,
-    /// A read, a write or a flush failed, or a write accepted no byte.
+    /// A read, a write or a flush failed, or a write accepted no byte. The program also reports
+    /// arguments that it cannot get as this error.
     Io,
 }
 

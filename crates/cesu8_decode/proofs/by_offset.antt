@@ -1,5 +1,5 @@
--- Decoding offset by offset: which character begins where, what is written for each byte, and
--- lengths and ill-formed bytes as sums.
+-- Decoding offset by offset: which character begins where, what is written for each byte, lengths
+-- as sums over the offsets, and which bytes no character covers.
 pub mod WidthTests
 pub mod WindowOffsets
 pub mod CharacterBoundaries

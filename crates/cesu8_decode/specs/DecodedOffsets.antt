@@ -75,8 +75,8 @@ ill_formed_by w0 w1 w2 w3 w4 w5 =
     not (nat_le 1 w0 || (nat_le 2 w1 || (nat_le 3 w2 || (w3 == 6 || (w4 == 6 || w5 == 6)))))
 
 -- The byte that is written for a byte that is not dropped, from the widths at the four offsets
--- before it and the two bytes before it. The last four bytes of a surrogate pair are converted, and
--- the second byte of C0 80 becomes 00.
+-- before it and the two bytes before it. The third, fourth and fifth byte of a surrogate pair are
+-- converted, and the second byte of C0 80 becomes 00. Any other byte is unchanged.
 abbrev pub byte_by : (w1 w2 w3 w4 two_before before b : ℕ) → ℕ
 byte_by w1 w2 w3 w4 two_before before b =
     if w2 == 6 then 0xF0 + (before % 0x10 + 1) / 4

@@ -76,8 +76,8 @@ pub record BuildsReading {Z E : Type 0} (f : Flavor) (bytes : List ℕ) (result 
   pub text : IfOk result (λ text. IsReadSoFar f Lossy bytes [] [] text.items)
   pub capacity : IfOk result (λ text. vec_capacity text ≡ length text.items)
 
--- A text ends with what is written for n bytes of a window from an offset on, or strict decoding
--- rejects one of these bytes.
+-- `text` is `before` and then what is written for n bytes of a window from an offset on, or strict
+-- decoding rejects one of these bytes.
 pub record IsDecoded (f : Flavor) (which : Strictness) (window : List ℕ) (at n : ℕ) (before text : List ℕ) (is_rejected : Bool) : Type 0 where
   pub bytes : is_rejected ≡ false → text ≡ before ++ decoded f window at n
   pub refused : is_rejected ≡ true → (i : ℕ) × (at ≤ i) × (i < at + n) × (is_ill_formed_at f window i ≡ true)
@@ -113,7 +113,8 @@ pass_from read = record { read = read; end = 0; is_rejected = false }
 
 -- The pass has read more bytes, and their text is written after the text of the bytes that were
 -- read before. In the field `text`, the variable `text` is what was written before this buffer was
--- used, and `start` is what precedes the text of the first byte.
+-- used, and `start` is what precedes the text of the first byte. The field `end` bounds how many
+-- bytes are written for those that were read.
 pub record GoesOn (f : Flavor) (which : Strictness) (bytes : List ℕ) (before after : Pass) (old new : List ℕ) : Type 0 where
   pub pass : after.is_rejected ≡ false → IsPass f bytes after.read
   pub within : (before.read ≤ after.read) × (after.read ≤ length bytes)
@@ -123,7 +124,8 @@ pub record GoesOn (f : Flavor) (which : Strictness) (bytes : List ℕ) (before a
   pub inside : after.end ≤ length new
   pub len : length new ≡ length old
 
--- What the pass writes to some buffer next is appended to a vector.
+-- What the pass writes next to some buffer, which is `old` before and `new` after that, is appended
+-- to a vector.
 pub record AppendsNext {Z : Type 0} (f : Flavor) (which : Strictness) (bytes : List ℕ) (read : ℕ) (after : Pass) (before out : Vec ℕ Z) : Type 0 where
   pub old : List ℕ
   pub new : List ℕ

@@ -85,8 +85,9 @@ pub record IsBlockAt (s : CharacterSet) (window : List ℕ) (i : ℕ) (block : B
   pub three_before : has_changed s ≡ true → block.three_before ≡ chunk (i + 1) 32 window
   pub four_before : has_changed s ≡ true → block.four_before ≡ chunk i 32 window
 
--- The window of some bytes: four zeros precede them. In MUTF-8 too, each counts as a character of
--- one byte, since whether a byte is a null is tested only from the fifth byte of a window on.
+-- The window of some bytes in these tests: four zeros precede them, and not five as in `window_of`.
+-- In MUTF-8 too, each zero counts as a character of one byte, since whether a byte is a null is
+-- tested only from the fifth byte of a window on.
 abbrev pub after_fillers : List ℕ → List ℕ
 after_fillers bytes = 0 ∷ 0 ∷ 0 ∷ 0 ∷ bytes
 

@@ -15,7 +15,7 @@ use Rattle.cesu8_decode.specs.DecodedOffsets.{one_at, two_at, three_at, width_at
 pub record HasBits (mask : ℕ) (test : ℕ → Bool) : Type 0 where
   pub bit : (i : ℕ) → bit_at mask i ≡ if test i then 1 else 0
 
--- The bit of the byte that is `below` places below the highest is set.
+-- In byte b the bit is set that is `below` places below the highest one.
 abbrev pub has_bit_below : ℕ → ℕ → Bool
 has_bit_below below b = nat_le 0x80 (b * 2 ^ below % 2 ^ 8)
 
@@ -63,9 +63,9 @@ pub record AreMasks (f : Flavor) (bytes : List ℕ) (at n : ℕ) (masks : Masks)
   pub pairs : Marks masks.pairs (is_pair_at f bytes) at n
   pub nulls : Marks masks.nulls (is_null_at f bytes) at n
 
--- The window holds the events of the bytes from `at` on, up to the end of the last character that
--- begins at one of n offsets. `window_of bytes` has five zeros before the bytes, so what
--- `is_ill_formed_at` says of it at offset i is about byte i of the bytes.
+-- The window holds the events of the n bytes from `at` on, and of the rest of a character that
+-- begins in them. `window_of bytes` has five zeros before the bytes, so what `is_ill_formed_at`
+-- says of it at offset i is about byte i of the bytes.
 pub record IsWindow (f : Flavor) (bytes : List ℕ) (at : ℕ) (window : Window) : Type 0 where
   pub n : ℕ
   pub few : n ≤ 64

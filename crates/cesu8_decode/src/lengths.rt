@@ -51,8 +51,7 @@ pub fn lossy_len<F: Flavor>(bytes: &[u8]) -> Option<usize>
 }
 
 /// Like `lossy_len`, in steps of `STEP` bytes: a character that begins in the first `STEP` bytes of
-/// a vector ends in it. It is not inlined, so that at most one block needs no registers of its
-/// loop.
+/// a vector ends in it. It is not inlined, so that at most one block has few registers to save.
 #[inline(never)]
 fn lossy_len_by_steps<F: Flavor>(bytes: &[u8]) -> Option<usize>
     ensures some { IfSome result (λ len. len ≡ lossy_length F.flavor bytes.now) }

@@ -85,8 +85,8 @@ pub fn longest_prefix<F: Flavor, S: CharacterSet>(bytes: &[u8]) -> usize
 }
 
 /// Returns the offset of the first byte that cannot follow the bytes before it, or the length if
-/// there is none. The input has more than 64 bytes. It first skips whole groups of unchanged ASCII,
-/// or else tests one block.
+/// there is none. The input has more than 64 bytes. It first skips whole groups of 256 bytes that
+/// are unchanged ASCII, or else tests one block.
 #[inline(always)]
 fn following_many<F: Flavor, S: CharacterSet>(bytes: &[u8]) -> usize
     requires { LANES < length bytes.now }
@@ -103,9 +103,9 @@ fn following_many<F: Flavor, S: CharacterSet>(bytes: &[u8]) -> usize
     following_from::<F, S>(bytes, run.max(BLOCK))
 }
 
-/// Like `following_many`, if the bytes up to `start` are known to follow each other. It tests two
-/// blocks at once, and then one block at a time. The last block may overlap the one before it, so
-/// that it is whole.
+/// Like `following_many`, if the bytes up to `start` are known to follow each other. At least
+/// `DECIDING` bytes precede `start`, as many as a block's test needs. It tests two blocks at once,
+/// and then one block at a time. The last block may overlap the one before it, so that it is whole.
 #[inline(always)]
 fn following_from<F: Flavor, S: CharacterSet>(bytes: &[u8], start: usize) -> usize
     requires first { FirstFollow S.set F.flavor bytes.now start }

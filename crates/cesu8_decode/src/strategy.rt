@@ -19,7 +19,7 @@
 //!   written in place, over `CLEARED_AT_ONCE` (in `chunks`) zeros at a time. A slice may be too
 //!   short, so its text is copied from a large array, after strict decoding has validated all
 //!   bytes, and after a pass for the length if that is needed. Lossy decoding to a `String` counts
-//!   only the bytes after the first 4,096.
+//!   only the bytes after a first part of at most 4,096.
 //!
 //! Strict decoding of more than 64 bytes to a `String` goes from one converted character to the
 //! next (`destinations::strict_append`) as long as these are far apart: the first after at least 16

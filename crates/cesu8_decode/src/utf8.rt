@@ -1,4 +1,4 @@
-//! Whether bytes are UTF-8, by the `Checker` of `simdutf8`.
+//! Whether bytes are UTF-8, for lenient decoding, by the `Checker` of `simdutf8`.
 //!
 //! A `Checker` takes 64 bytes at a time, and reports an error only at the end. So bytes are tested
 //! in parts that end between characters, and nothing is read after the first part with an error.

@@ -1,2 +1,2 @@
--- The lemmas about the encoder. The folders beside it prove the functions of `src`.
+-- The lemmas about the encoder. The folders beside `encoder` prove the functions of `src`.
 pub mod encoder

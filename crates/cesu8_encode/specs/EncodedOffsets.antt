@@ -36,7 +36,8 @@ encoded_byte f two_before before b next =
     then inserted f b ∷ changed f two_before before b next ∷ []
     else changed f two_before before b next ∷ []
 
--- The first and the second of the bytes that are written for the byte of a window at offset i + 2.
+-- What is written for the byte of a window at offset i + 2: the first of two bytes, and the second
+-- or only one.
 abbrev pub inserted_at : Flavor → List ℕ → ℕ → ℕ
 inserted_at f window i = inserted f (slice_index window (i + 2))
 
@@ -114,8 +115,8 @@ pub record ArePackedTo (f : Flavor) (window : List ℕ) (i : ℕ) (seconds first
   pub doubled_is : doubled ≡ mask_l (map (is_doubled_at f window) (range_with_len i 32))
   pub packed_to : packed (map (is_doubled_at f window) (range_with_len i 32)) firsts seconds ≡ encoded_bytes f window i 32
 
--- What the lanes of a block say for its first bytes is written at an offset. What precedes the
--- offset is unchanged.
+-- What the lanes of a block are packed to, for its first `count` bytes, is written from offset `at`
+-- on, and ends at n. What precedes `at` is unchanged.
 pub record WritesLanes (seconds firsts : List ℕ) (doubled count at : ℕ) (old new : List ℕ) (n : ℕ) : Type 0 where
   pub bytes : (f : Flavor) → (window : List ℕ) → (i : ℕ) → ArePackedTo f window i seconds firsts doubled →
       take n new ≡ take at old ++ encoded_bytes f window i count

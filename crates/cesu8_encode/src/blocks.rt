@@ -30,7 +30,7 @@ pub const READ_BEFORE: usize = 2;
 /// and `b` take bits of the next one.
 pub const READ_AFTER: usize = 1;
 
-/// The bytes that are read to encode a block.
+/// The bytes that are read to encode a block: its window.
 pub const BLOCK_READ: usize = READ_BEFORE + BLOCK + READ_AFTER;
 
 /// The bytes of a block that form a row.
@@ -39,7 +39,8 @@ pub const ROW: usize = 8;
 /// The bytes that are stored for the rows of a block. Its encoding has at most as many.
 pub const BLOCK_ENCODED: usize = 2 * BLOCK;
 
-/// Encodes the first `count` bytes of a window of one block, and returns the end of what it wrote.
+/// Encodes the first `count` bytes of the block in a window, which begins `READ_BEFORE` bytes into
+/// it, and returns the end of what it wrote.
 #[inline(always)]
 pub fn write_block<F: Flavor>(window: &[u8], count: usize, out: &mut [u8], end: usize) -> usize
     requires window { BLOCK_READ ≤ length window.now }

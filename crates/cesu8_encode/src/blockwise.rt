@@ -19,7 +19,7 @@ use cesu8_bytes::lanes::short::copy_short;
 
 /// Writes the encoding of a string, and returns its length. `more` is the number of bytes by which
 /// the encoding is longer than the string, or 0 if that is not known. The function is inlined, so
-/// that a caller that knows the length does not test it again.
+/// that a caller that has tested the string's length does not test it again.
 #[inline(always)]
 pub fn write<F: Flavor>(text: &str, more: usize, out: &mut [u8]) -> usize
     requires { length (encoding F.flavor (chars text.now)) ≤ length out.old }

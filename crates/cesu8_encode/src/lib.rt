@@ -50,10 +50,10 @@ use std::alloc::{AllocError, Global};
 /// The length of the longest encoding that is written to the stack.
 const ON_STACK_ENCODED: usize = 2 * ON_STACK;
 
-/// Returns the encoding of a string, with one allocation of exactly its length. A short string is
-/// encoded to an array on the stack, without counting first. A block uses a smaller array, which is
-/// zeroed faster. This function is out of line, so that callers that borrow use no stack.
-/// `encode_on_stack` is inlined, so that `write` does not test the length again.
+/// Returns the encoding of a string, with one allocation of exactly its length. At most `ON_STACK`
+/// bytes are encoded to an array on the stack, without counting first. A block uses a smaller
+/// array, which is zeroed faster. This function is out of line, so that callers that borrow use no
+/// stack. `encode_on_stack` is inlined, so that `write` does not test the string's length again.
 #[inline(never)]
 pub fn encode<F: Flavor>(alloc: Global, text: &str) -> Result<Vec<u8>, AllocError>
     ensures { BuildsEncoding F.flavor text.now result }

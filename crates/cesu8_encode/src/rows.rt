@@ -4,9 +4,10 @@ ghost use Rattle.cesu8_encode.specs.EncodedOffsets.{AreShuffles};
 
 use cesu8_bytes::Rows;
 
-// Expands to the rows for the given bytes, each a pair: the lane of its last byte, and of the one
-// before it. Each pair doubles the rows: after those that keep one lane come those that keep two.
-// A row is the lanes that it keeps, and a 0 for each lane that it does not.
+// Expands to the rows for the given bytes. Each byte is a pair: the lane of the last byte that is
+// written for it, and the lane of the one before that. Each pair doubles the number of rows: after
+// those that keep only its first lane come those that keep both. A row has the lanes that it keeps,
+// and then a 0 for each lane that it drops.
 macro_rules! rows {
     (
         $([$($kept:literal)*] [$($zero:literal)*])*;

@@ -12,7 +12,7 @@ pub encoding_empty : (f : Flavor) → encoding f [] ≡ []
 unfolding encoding
 encoding_empty f = refl
 
--- A character has one to six bytes in an encoding,
+-- A character has one to six bytes in an encoding.
 pub encoding_some : (f : Flavor) (c : ℕ) → 0 < length (encoding f (c ∷ []))
 unfolding encoding form units_of
 encoding_some f c = grind (arith, nat_tests)
@@ -21,7 +21,7 @@ pub encoding_few : (f : Flavor) (c : ℕ) → length (encoding f (c ∷ [])) ≤
 unfolding encoding form units_of
 encoding_few f c = grind (arith, nat_tests)
 
--- and one to four in UTF-8.
+-- A character has one to four bytes in UTF-8.
 pub utf8_some : (c : ℕ) → 0 < length (utf8 (c ∷ []))
 unfolding utf8_of
 utf8_some c = grind (arith, nat_tests)

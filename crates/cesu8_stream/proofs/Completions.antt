@@ -18,7 +18,8 @@ use Rattle.cesu8_stream.proofs.Shapes.{IsTwo, IsThree, IsPair, Shape, one, two, 
 abbrev pub BeginsSome : (List ℕ → List ℕ) → List ℕ → Type 0
 BeginsSome write bytes = (c : ℕ) × Begins write bytes c
 
--- A character, from its bytes in an encoding.
+-- Bytes with the form of an encoded character, of two bytes, three or six, begin with a character.
+-- Its digits are w to z (Shapes.antt).
 two_begins : (f : Flavor) (x y : ℕ) (rest : List ℕ) → 2 ≤ x → x < 0x20 → y < 0x40 →
     BeginsSome (encoding f) ((0xC0 + x) ∷ (0x80 + y) ∷ rest)
 two_begins f x y rest low high last =
@@ -49,7 +50,7 @@ pub record IsPart (write : List ℕ → List ℕ) (bytes : List ℕ) : Type 0 wh
   pub some : 0 < length bytes
   pub none_begins : BeginsNone write bytes
 
--- A part of a character of two bytes is its first byte.
+-- A part of a character of two bytes is its first byte, which A0 completes.
 two_completes : (f : Flavor) (c x y : ℕ) → IsScalarValue c → IsTwo c x y → (bytes more rest : List ℕ) → IsPart (encoding f) bytes →
     bytes ++ more ≡ (0xC0 + x) ∷ (0x80 + y) ∷ rest → IsCompletedBy (encoding f) pair_bytes bytes
 two_completes f c x y scalar digits [] more rest part same = absurd (let h = part.some in omega arith)
@@ -65,7 +66,8 @@ two_completes f c x y scalar digits (a ∷ b ∷ bytes) more rest part same =
       bytes_are = rw (encoding_two f c x y digits, first.0, second.0) refl;
     }))
 
--- A part of a character of three bytes is its first one or two bytes.
+-- A part of a character of three bytes is its first byte, which A0 80 complete, or its first two,
+-- which 80 completes. ED alone is completed to U+10000, since A0 begins a surrogate after it.
 three_completes : (f : Flavor) (c x y z : ℕ) → IsScalarValue c → IsThree c x y z → (bytes more rest : List ℕ) → IsPart (encoding f) bytes →
     bytes ++ more ≡ (0xE0 + x) ∷ (0x80 + y) ∷ (0x80 + z) ∷ rest → IsCompletedBy (encoding f) pair_bytes bytes
 three_completes f c x y z scalar digits [] more rest part same = absurd (let h = part.some in omega arith)
@@ -97,7 +99,8 @@ three_completes f c x y z scalar digits (a ∷ b ∷ d ∷ bytes) more rest part
       bytes_are = rw (encoding_three f c x y z digits, first.0, second.0, third.0) refl;
     }))
 
--- A part of a surrogate pair is its first one to five bytes.
+-- A part of a surrogate pair is its first one to five bytes. The remaining bytes of U+10000
+-- complete it.
 pair_completes : (f : Flavor) (c w x y z : ℕ) → IsScalarValue c → IsPair c w x y z → (bytes more rest : List ℕ) → IsPart (encoding f) bytes →
     bytes ++ more ≡ 0xED ∷ (0xA0 + w) ∷ (0x80 + x) ∷ 0xED ∷ (0xB0 + y) ∷ (0x80 + z) ∷ rest →
     IsCompletedBy (encoding f) pair_bytes bytes
@@ -151,7 +154,8 @@ null_begins rest = (
   },
 )
 
--- A part of a character below 80 (hexadecimal) is C0 in MUTF-8.
+-- A part of a character below 80 (hexadecimal) is C0 in MUTF-8, which 80 completes. In CESU-8 there
+-- is none.
 one_completes : (f : Flavor) (c : ℕ) → IsScalarValue c → c < 0x80 → (bytes more rest : List ℕ) → IsPart (encoding f) bytes →
     bytes ++ more ≡ short_form f c ++ rest → IsCompletedBy (encoding f) null_bytes bytes
 one_completes f c scalar low [] more rest part same = absurd (let h = part.some in omega arith)

@@ -13,7 +13,7 @@ abbrev pub NoneFrom : (List ℕ → List ℕ) → List ℕ → ℕ → ℕ → T
 NoneFrom write bytes place start =
     (i c : ℕ) → i < start → place ≤ i + 5 → Begins write (drop i bytes) c → i + length (write (c ∷ [])) ≤ place
 
--- One more offset, if no character begins there and ends after the place.
+-- `NoneFrom` holds for one more offset if no character begins there and ends after the place.
 pub one_more : (write : List ℕ → List ℕ) (bytes : List ℕ) (place start : ℕ) → start < place → NoneFrom write bytes place start →
     ((c : ℕ) → Begins write (drop start bytes) c → length (write (c ∷ [])) ≤ place - start) →
     NoneFrom write bytes place (start + 1)
@@ -26,10 +26,11 @@ one_more write bytes place start inside none here i c low near b = by (cases_lt 
         let fits = here c (subst (λ k. Begins write (drop k bytes) c) exact b) in
         omega arith
 
--- The bytes from an offset on, if more follow.
+-- If more bytes follow, dropping i of the first ones leaves the rest of these, and then the others.
 drop_front : (i : ℕ) (bytes more : List ℕ) → i ≤ length bytes → drop i (bytes ++ more) ≡ drop i bytes ++ more
 drop_front i bytes more low = grind (arith, common_steps)
 
+-- `drop_front` for bytes that are cut at the place, as `NoneCrosses` has them.
 drop_before : (i place : ℕ) (bytes more : List ℕ) → i < place → place ≤ length bytes →
     drop i (take place bytes ++ (drop place bytes ++ more)) ≡ drop i bytes ++ more
 drop_before i place bytes more low within =

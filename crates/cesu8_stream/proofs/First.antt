@@ -1,5 +1,5 @@
--- The first character of bytes: whether one begins them, and that the shortest valid prefix is it,
--- for src/engine.rt and src/cut.rt.
+-- The first character of some bytes: whether there is one, and that the shortest valid prefix that
+-- is not empty is this character alone. These lemmas are for src/engine.rt and src/cut.rt.
 use Rattle.std.proofs.Common.{◌≡◌, ℕ, min, ◌+◌, ◌-◌, ◌<◌, ◌≤◌, ◌⊎◌, List, [], ◌∷◌, ◌++◌, sym, ap, ◌∙◌, subst, inl, inr, arith, length, take, drop, append_assoc, length-append}
 use Rattle.std.proofs.lemmas.Grind.{common_steps}
 use Rattle.std.proofs.Math.Seq.{take-append-add}

@@ -51,7 +51,7 @@ joined from to bytes old mid new m w n v append_from append_to first second = (
   rw (append_to first.0 second.0) (joined_front (to first.0) (to second.0) w v old mid new first.2 second.2),
 )
 
--- A call that reads nothing.
+-- `Converts` holds of no bytes, if the buffer is unchanged.
 pub nothing : (from to : List ℕ → List ℕ) (bytes old new : List ℕ) → from [] ≡ [] → to [] ≡ [] → new ≡ old →
     Converts from to bytes 0 0 old new
 nothing from to bytes old new from_empty to_empty same =

@@ -114,7 +114,8 @@ pub record IsLeft (from : List ℕ → List ℕ) (rest : List ℕ) (room : ℕ) 
   pub malformed : (state ≡ Malformed) ↔ NeverBegins from rest
   pub output_full : (state ≡ OutputFull) ↔ BeginsLonger from utf8 rest room
 
--- If it left no damage, the lossy call returns its state, which is right for that call too.
+-- If the strict call left no damage, the lossy call returns the state of the strict call. The next
+-- three lemmas say that this state is right for the lossy call too.
 kept_incomplete : (from : List ℕ → List ℕ) (is_last : Bool) (rest : List ℕ) (room : ℕ) (state : State) →
     IsLeft from rest room state → is_damage state is_last ≡ false → (state ≡ Incomplete) ↔ StaysForNext from is_last rest
 kept_incomplete from is_last rest room state left kept = (
@@ -142,7 +143,8 @@ kept_full from is_last rest room state left kept = ((λ s. inl (left.output_full
     back (inl longer) = left.output_full.1 longer
     back (inr replaced) = by replaced.0 (which state)
 
--- If it left damage, the byte there is replaced, whatever may follow.
+-- If the strict call left damage, no character begins there, whatever may follow. So the byte there
+-- is replaced (`is_replaced`).
 pub never_follows : (from : List ℕ → List ℕ) (is_last : Bool) (rest : List ℕ) (room : ℕ) (state : State) →
     IsLeft from rest room state → is_damage state is_last ≡ true → (more : List ℕ) → MayFollow is_last more →
     BeginsNone from (rest ++ more)
@@ -195,7 +197,7 @@ left_by from to widest bytes old buf new m w found to_utf8 same piece =
     none_left : (n : ℕ) (bs : List ℕ) → drop (m + found.read) bytes ≡ drop n bs → n ≡ length bs → drop (m + found.read) bytes ≡ []
     none_left n bs is all = is ∙ ap (λ k. drop k bs) all ∙ grind (arith, common_steps)
 
--- What was read after such a call.
+-- If a strict call on the rest follows what was read so far, `ReadsOn` holds for both together.
 pub reads_by : (from to reading : List ℕ → List ℕ) (widest : ℕ) (is_last : Bool) (bytes old buf new : List ℕ) (m w : ℕ)
     (found : Progress) → IsReading from to reading → ReadsOn reading is_last bytes m w old buf →
     ConvertsPiece from to widest (drop m bytes) found (drop w buf) new →
@@ -250,6 +252,7 @@ pub record IsFound (from reading : List ℕ → List ℕ) (is_last : Bool) (byte
   pub few : state ≡ Incomplete → length bytes ≤ n + 5
   pub same : length new ≡ length old
 
+-- `IsFound` holds after the strict call of an iteration.
 pub found_by : (from to reading : List ℕ → List ℕ) (widest : ℕ) (is_last : Bool) (bytes old buf new : List ℕ) (m w : ℕ)
     (found : Progress) → IsReading from to reading → m ≤ length bytes → length buf ≡ length old →
     ReadsOn reading is_last bytes m w old buf → length new ≡ length (take (length buf - w) (drop w buf)) →
@@ -267,7 +270,7 @@ found_by from to reading widest is_last bytes old buf new m w found facts within
       same = same_length w buf new old (rw take_rest at long) same;
     })
 
--- The call returns what the strict call on the rest did.
+-- If the strict call left no damage, the lossy call ends with that state, and its contract holds.
 pub stopped : (from reading : List ℕ → List ℕ) (is_last : Bool) (bytes old new : List ℕ) (n w : ℕ) (state : State) →
     IsFound from reading is_last bytes old new n w state → is_damage state is_last ≡ false →
     DecodesPiece from reading is_last bytes (record { read = n; written = w; state = state }) old new
@@ -291,7 +294,7 @@ stopped from reading is_last bytes old new n w state found kept =
       progress = (λ space s. progress from reading is_last bytes old new n w found.reads (full.0 s) space);
     }
 
--- U+FFFD does not fit: what follows in the buffer is unchanged.
+-- If U+FFFD does not fit, the lossy call ends with `OutputFull`, and its contract holds.
 pub filled : (from reading : List ℕ → List ℕ) (is_last : Bool) (bytes old buf after : List ℕ) (n w : ℕ) (state : State) →
     IsFound from reading is_last bytes old buf n w state → is_damage state is_last ≡ true →
     length (take (length buf - w) (drop w buf)) < 3 → after ≡ take (length buf - w) (drop w buf) →
@@ -331,7 +334,7 @@ one_left from is_last bytes n replaced = by (cases_lt n (length bytes))
     by (inl less) = omega arith
     by (inr all) = absurd (replaced.nonempty (grind (arith, common_steps)))
 
--- U+FFFD was written for the byte that was left.
+-- If U+FFFD was written, one byte more is read, and three more are written.
 pub replaces : (from to reading : List ℕ → List ℕ) (is_last : Bool) (bytes old buf after : List ℕ) (n w : ℕ) (state : State) →
     IsReading from to reading → IsFound from reading is_last bytes old buf n w state → is_damage state is_last ≡ true →
     after ≡ 0xEF ∷ 0xBF ∷ 0xBD ∷ drop 3 (take (length buf - w) (drop w buf)) →

@@ -10,7 +10,8 @@ use Rattle.simd_cesu8.specs.Laws.{Split}
 use Rattle.cesu8_stream.specs.Written.{NoneCrosses}
 use Rattle.cesu8_stream.specs.Lossy.{ReadsOn}
 
--- The readings of two parts, if no character crosses from one to the other.
+-- If no character crosses from one part to the other, the reading of both is that of the first and
+-- then that of the second.
 pub parts_read : Split → (f : Flavor) (first others : List ℕ) → NoneCrosses (encoding f) first others →
     reading f (first ++ others) ≡ reading f first ++ reading f others
 parts_read split f first others none =

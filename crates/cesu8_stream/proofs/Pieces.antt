@@ -22,7 +22,7 @@ pub record IsConversion (from to : List ℕ → List ℕ) (widest : ℕ) : Type 
   pub sizes : Sizes from
   pub wide : (c : ℕ) → length (to (c ∷ [])) ≤ widest
 
--- The buffer after a write to all of it from one place on.
+-- Replacing the buffer from `start` on by `new` gives the bytes before `start`, and then `new`.
 pub to_end : (start : ℕ) (buf new : List ℕ) → put_mid start (length buf - start) buf new ≡ take start buf ++ new
 to_end start buf new = grind (arith, common_steps)
 
@@ -45,7 +45,8 @@ nothing_moved from to widest bytes old new n w facts zero moves =
     let w_zero : w ≡ 0 = moves.2.0 ∙ ap length written in
     (w_zero, moves.2.1 ∙ (λ i. written i ++ drop (w_zero i) old))
 
--- The end of the loop: what was converted, and why no more.
+-- When the loop ends, the contract of the call holds: n bytes were converted, and `state` says why
+-- no more.
 pub ended : (from to : List ℕ → List ℕ) (widest : ℕ) (bytes old new : List ℕ) (n w : ℕ) (state : State) →
     IsConversion from to widest → n ≤ length bytes → Converts from to bytes n w old new →
     IsStateOf from (drop n bytes) state →

@@ -24,7 +24,7 @@ empty_may_begin from rest empty never =
 never_none : (from : List ℕ → List ℕ) (rest : List ℕ) → NeverBegins from rest → BeginsNone from rest
 never_none from rest never c b = never [] c (subst (λ bs. Begins from bs c) (sym (append-nil rest)) b)
 
--- Nothing is left.
+-- If nothing is left, the state is `InputEmpty`.
 pub empty_state : (from : List ℕ → List ℕ) (rest : List ℕ) → Sizes from → rest ≡ [] → IsStateOf from rest InputEmpty
 empty_state from rest sizes empty = record {
   input_empty = ((λ _. empty), (λ _. refl));
@@ -37,7 +37,7 @@ empty_state from rest sizes empty = record {
   few_left = (λ s. absurd (let e = s in cc));
 }
 
--- A character begins what is left.
+-- If a character begins what is left, the state is `OutputFull`.
 pub full_state : (from : List ℕ → List ℕ) (rest : List ℕ) (c : ℕ) → Sizes from → Begins from rest c →
     IsStateOf from rest OutputFull
 full_state from rest c sizes b = record {
@@ -51,7 +51,7 @@ full_state from rest c sizes b = record {
   few_left = (λ s. absurd (let e = s in cc));
 }
 
--- A part of a character is left.
+-- If a part of a character is left, the state is `Incomplete`.
 pub partial_state : (from : List ℕ → List ℕ) (rest : List ℕ) → IsPartial from rest → length rest ≤ 5 →
     IsStateOf from rest Incomplete
 partial_state from rest p few = record {
@@ -65,7 +65,7 @@ partial_state from rest p few = record {
   few_left = (λ _. few);
 }
 
--- No character can begin what is left.
+-- If no character can begin what is left, the state is `Malformed`.
 pub malformed_state : (from : List ℕ → List ℕ) (rest : List ℕ) → NeverBegins from rest →
     IsStateOf from rest Malformed
 malformed_state from rest never = record {

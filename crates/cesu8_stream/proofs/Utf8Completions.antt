@@ -13,7 +13,8 @@ use Rattle.cesu8_stream.proofs.Completions.{BeginsSome, IsPart, cons_parts}
 abbrev Completes : List ℕ → Type 0
 Completes bytes = IsCompletedBy utf8 low_bytes bytes ⊎ IsCompletedBy utf8 high_bytes bytes
 
--- A character, from its bytes.
+-- Bytes with the form of a character of UTF-8, of two bytes, three or four, begin with a character.
+-- Its digits are w to z (Shapes.antt).
 two_begins : (x y : ℕ) (rest : List ℕ) → 2 ≤ x → x < 0x20 → y < 0x40 →
     BeginsSome utf8 ((0xC0 + x) ∷ (0x80 + y) ∷ rest)
 two_begins x y rest low high last =
@@ -36,7 +37,7 @@ four_begins w x y z rest low high first second last =
     record { value = refl; low = omega arith; high = omega arith; first = first; second = second; last = last } in
     (c, record { scalar = inr (omega arith, omega arith); rest = rest; bytes_are = rw (utf8_four c w x y z digits) refl })
 
--- No part of a character of one byte is missing.
+-- A character of one byte has no part that lacks a byte.
 one_completes : (c : ℕ) → IsScalarValue c → c < 0x80 → (bytes more rest : List ℕ) → IsPart utf8 bytes →
     bytes ++ more ≡ c ∷ rest → Completes bytes
 one_completes c scalar low [] more rest part same = absurd (let h = part.some in omega arith)
@@ -47,7 +48,7 @@ one_completes c scalar low (a ∷ bytes) more rest part same =
       bytes_are = rw (utf8_one c low, (cons_parts a c (bytes ++ more) rest same).0) refl;
     }))
 
--- A part of a character of two bytes is its first byte.
+-- A part of a character of two bytes is its first byte, which 80 completes.
 two_completes : (c x y : ℕ) → IsScalarValue c → IsTwo c x y → (bytes more rest : List ℕ) → IsPart utf8 bytes →
     bytes ++ more ≡ (0xC0 + x) ∷ (0x80 + y) ∷ rest → Completes bytes
 two_completes c x y scalar digits [] more rest part same = absurd (let h = part.some in omega arith)
@@ -63,7 +64,8 @@ two_completes c x y scalar digits (a ∷ b ∷ bytes) more rest part same =
       bytes_are = rw (utf8_two c x y digits, first.0, second.0) refl;
     }))
 
--- A part of a character of three bytes is its first one or two bytes.
+-- A part of a character of three bytes is its first one or two bytes. `high_bytes` completes a
+-- lone E0, and `low_bytes` every other part.
 three_completes : (c x y z : ℕ) → IsScalarValue c → IsThree c x y z → (bytes more rest : List ℕ) → IsPart utf8 bytes →
     bytes ++ more ≡ (0xE0 + x) ∷ (0x80 + y) ∷ (0x80 + z) ∷ rest → Completes bytes
 three_completes c x y z scalar digits [] more rest part same = absurd (let h = part.some in omega arith)
@@ -98,7 +100,8 @@ three_completes c x y z scalar digits (a ∷ b ∷ d ∷ bytes) more rest part s
       bytes_are = rw (utf8_three c x y z digits, first.0, second.0, third.0) refl;
     }))
 
--- A part of a character of four bytes is its first one to three bytes.
+-- A part of a character of four bytes is its first one to three bytes. `high_bytes` completes a
+-- lone F0, and `low_bytes` every other part.
 four_completes : (c w x y z : ℕ) → IsScalarValue c → IsFour c w x y z → (bytes more rest : List ℕ) → IsPart utf8 bytes →
     bytes ++ more ≡ (0xF0 + w) ∷ (0x80 + x) ∷ (0x80 + y) ∷ (0x80 + z) ∷ rest → Completes bytes
 four_completes c w x y z scalar digits [] more rest part same = absurd (let h = part.some in omega arith)

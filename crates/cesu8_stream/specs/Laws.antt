@@ -35,8 +35,9 @@ ConvertInTurn from kept (call ∷ calls) rest =
     IsWritten from (take call.read (kept ++ call.piece)) call.text
     × ConvertInTurn from (drop call.read (kept ++ call.piece)) calls rest
 
--- Calls in a row that replace damage: each reads on whatever may follow, and after the last piece
--- only empty ones come.
+-- Calls in a row that replace damage. Whatever may follow what a call is given, the reading of all
+-- is the call's text, followed by the reading of what is left. After the last piece only empty ones
+-- come.
 abbrev pub ReadInTurn : (List ℕ → List ℕ) → List ℕ → List Call → List ℕ → Type 0
 ReadInTurn reading kept [] rest = kept ≡ rest
 ReadInTurn reading kept (call ∷ calls) rest =
@@ -59,7 +60,8 @@ EncodedInPieces = (f : Flavor) (calls : List Call) (rest : List ℕ) → Convert
     IsText (texts calls) × (pieces calls ≡ utf8 (texts calls) ++ rest)
     × (outputs (encoding f) calls ≡ encoding f (texts calls))
 
--- The lossy reading of the pieces joined is the texts joined, and that of what is left.
+-- The lossy reading of the pieces joined is the texts joined, and then the lossy reading of what is
+-- left. What was written, joined, is the UTF-8 of the texts joined.
 abbrev pub LossyInPieces : Type 0
 LossyInPieces = (f : Flavor) (calls : List Call) (rest : List ℕ) → ReadInTurn (reading f) [] calls rest →
     (reading f (pieces calls) ≡ texts calls ++ reading f rest) × (outputs utf8 calls ≡ utf8 (texts calls))

@@ -54,9 +54,9 @@ pub trait Conversion {
             → length buf.old < length (to text)) }
         ensures unchanged { result ≡ None → buf.new ≡ buf.old };
 
-    /// Returns two characters of the input. Each truncated character becomes whole again if the
-    /// missing bytes are taken from one of these: which bytes may follow depends on the first two
-    /// bytes alone.
+    /// Returns the bytes of two characters, padded with zeros. Each truncated character of the
+    /// input becomes a whole one if the missing bytes are taken from one of these: which bytes may
+    /// follow depends on the first two bytes alone.
     fn completions() -> ([u8; 6], [u8; 6])
         ensures first { result.0 ≡ first_completion }
         ensures second { result.1 ≡ second_completion };
@@ -109,7 +109,7 @@ impl<E: Encoding> Conversion for FromEncoding<E> {
         E::decode(bytes, buf).ok()
     }
 
-    /// U+10000, and U+0000 in MUTF-8. In CESU-8 the second one completes nothing.
+    /// U+10000, and U+0000 of MUTF-8. Only the byte C0, in MUTF-8, needs the second one.
     fn completions() -> ([u8; 6], [u8; 6]) {
         (
             [0xED, 0xA0, 0x80, 0xED, 0xB0, 0x80],

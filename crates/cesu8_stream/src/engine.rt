@@ -33,7 +33,7 @@ pub fn convert<C: Conversion>(bytes: &[u8], buf: &mut [u8]) -> Progress
 }
 
 /// Converts as much of the input as fits in the buffer, without `convert_window` first. `lossy`
-/// calls it for what follows a damaged byte.
+/// calls it for what `lossy_windows` left, and again after each byte that is replaced.
 pub fn convert_rest<C: Conversion>(bytes: &[u8], buf: &mut [u8]) -> Progress
     ensures { ConvertsPiece C.from C.to C.widest bytes.now result buf.old buf.new }
 {

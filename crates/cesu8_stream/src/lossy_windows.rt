@@ -1,5 +1,5 @@
 //! Decodes what may be damaged in few calls. `simd_cesu8` reads a window as a whole, damage too, if
-//! no character crosses its end. What is left is short: `lossy` decodes it character by character.
+//! no character crosses its end. When little input or buffer is left, `lossy` decodes the rest.
 
 ghost use Rattle.std.specs.Prelude.{◌≤◌, false, length};
 ghost use Rattle.cesu8_stream.specs.Lossy.{ReadsOn};
@@ -9,7 +9,7 @@ use crate::decoding::Decoding;
 use crate::engine::{Moved, convert_window};
 use crate::window::whole_characters;
 
-/// Input that is shorter is left to `lossy`, which then takes no longer.
+/// A window that would be shorter is left to `lossy`, which then takes no longer.
 const SHORTEST: usize = 64;
 
 /// The most bytes of output for a byte of input: U+FFFD in place of a damaged one.
@@ -48,7 +48,8 @@ fn decode_rest_by_windows<C: Decoding>(bytes: &[u8], buf: &mut [u8]) -> Moved
 }
 
 /// Decodes as many bytes as surely fit, but for those at the end that may be a part of a character.
-/// It leaves at least five bytes, since `is_cut` also tests the five bytes after `end`.
+/// It leaves at least five bytes, since `is_cut` also tests the five bytes after `end`. It reads
+/// nothing if fewer than `SHORTEST` bytes surely fit, or if a character crosses `end`.
 fn decode_window<C: Decoding>(bytes: &[u8], buf: &mut [u8]) -> Moved
     ensures reads { ReadsOn C.reading false bytes.now result.read result.written buf.old buf.new }
     ensures within { result.read ≤ length bytes.now }

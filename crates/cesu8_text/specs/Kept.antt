@@ -1,4 +1,4 @@
--- What a decoding call returns for its input, and when it borrows the input unchanged.
+-- What a decoding call returns for its input, and which input it returns unchanged.
 use Rattle.std.specs.Prelude.{◌≡◌, ℕ, ◌↔◌, List, IsUtf8}
 use Rattle.std.specs.Str.{chars}
 use Rattle.cesu8_text.specs.Encoding.{Flavor}

@@ -49,7 +49,8 @@ pub data IsMark (f : Flavor) (bytes : List ℕ) (i : ℕ) : List ℕ → Type 0 
   Within : NoneBegins f (drop i bytes) → LiesWithin f bytes i → IsMark f bytes i []
   Damaged : NoneBegins f (drop i bytes) → ¬ (LiesWithin f bytes i) → IsMark f bytes i (0xFFFD ∷ [])
 
--- From here on, the lossy reading as a function.
+-- The rest of the file defines the lossy reading as a function. By the law `OneMark` (Laws.antt),
+-- `mark` computes the mark that `IsMark` describes.
 
 -- The code point that two or three bytes would encode, or a surrogate pair with these second,
 -- third, fifth and sixth bytes.

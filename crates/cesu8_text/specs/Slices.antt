@@ -1,4 +1,5 @@
--- What a call that writes into a caller's buffer leaves there.
+-- What a call that writes into a caller's buffer leaves there. `old` and `new` are the buffer
+-- before and after the call.
 use Rattle.std.specs.Prelude.{◌≡◌, ℕ, List, ◌++◌, length, drop}
 use Rattle.cesu8_text.specs.Text.{utf8}
 

@@ -126,8 +126,8 @@ fn flavor_of(word: &str) -> FlavorWord {
 }
 
 /// The task of a command, or `None` if `--lossy` is given and the command does not have it. The
-/// first letters of the commands differ. The command line accepts no other words, so a word with
-/// none of the first four letters is `check`.
+/// first letters of the commands differ. The command line accepts no other words, so a word that
+/// begins with none of the four letters in the match is `check`.
 fn task_of(word: &str, flavor: FlavorWord, is_lossy: bool) -> Option<Task> {
     let conversion = match (word.as_bytes(), is_lossy) {
         ([b'e' | b'E', ..], false) => Conversion::Encode(flavor),

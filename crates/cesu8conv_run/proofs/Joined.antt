@@ -48,7 +48,7 @@ written-append concat (Lossy word) s t = utf8-append s t
 written-append concat (Mixed word) s t = utf8-append s t
 written-append concat (MixedLossy word) s t = utf8-append s t
 
--- The texts of two parts of the input, joined, are that of both.
+-- The texts of two parts of the input, joined, are the text of both parts together.
 pub text-append : Concat → (c : Conversion) (is_last : Bool) (a p rest s t : List ℕ) →
     IsTextOf c is_last a (p ++ rest) s → IsTextOf c is_last p rest t → IsTextOf c is_last (a ++ p) rest (s ++ t)
 text-append concat (Encode word) is_last a p rest s t h k =
@@ -65,7 +65,7 @@ text-append concat (Lossy word) is_last a p rest s t h k = λ more follows.
 text-append concat (Mixed word) is_last a p rest s t h k = IsMixed-append false (flavor_of word) a p s t h k
 text-append concat (MixedLossy word) is_last a p rest s t h k = IsMixed-append true (flavor_of word) a p s t h k
 
--- What two parts of the input became, joined, is what both became.
+-- What two parts of the input became, joined, is what both parts together became.
 pub converts-append : Concat → (c : Conversion) (is_last : Bool) (a p rest x y : List ℕ) →
     Converts c is_last a (p ++ rest) x → Converts c is_last p rest y → Converts c is_last (a ++ p) rest (x ++ y)
 converts-append concat c is_last a p rest x y h k = record {
@@ -75,7 +75,7 @@ converts-append concat c is_last a p rest x y h k = record {
       ∙ sym (written-append concat c h.text k.text);
 }
 
--- No bytes are converted to no bytes.
+-- The empty part of the input has the empty text, and becomes no bytes.
 pub text-nil : (c : Conversion) (is_last : Bool) (ahead : List ℕ) → IsTextOf c is_last [] ahead []
 unfolding encoding
 text-nil (Encode word) is_last ahead = (tt, refl)
@@ -99,7 +99,8 @@ converts-nil c is_last ahead = record {
   written_is = written-nil c;
 }
 
--- What is right whatever follows is also right if more input is read, or if none is left.
+-- A text that is right whatever follows is still right after more input is read, and if that is the
+-- last.
 pub text-read : (c : Conversion) (is_last : Bool) (a ahead more s : List ℕ) → IsTextOf c false a ahead s →
     IsTextOf c is_last a (ahead ++ more) s
 text-read (Encode word) is_last a ahead more s h = h
@@ -129,7 +130,7 @@ pub reading-nil : (f : Flavor) → reading f [] ≡ []
 unfolding reading
 reading-nil f = refl
 
--- If a lossy conversion reads all, what it read is the reading.
+-- If a lossy conversion took all of the input `a`, its text is the lossy reading of `a`.
 pub reading-of-all : (f : Flavor) (is_last : Bool) (a text : List ℕ) →
     ((more : List ℕ) → MayFollow is_last more → reading f (a ++ ([] ++ more)) ≡ text ++ reading f ([] ++ more)) →
     text ≡ reading f a
@@ -145,7 +146,8 @@ output-of-all (Lossy word) is_last a x h =
 output-of-all (Mixed word) is_last a x h = (h.text, h.is_text, h.written_is)
 output-of-all (MixedLossy word) is_last a x h = (h.text, h.is_text, h.written_is)
 
--- If damage is ahead, the output is that of what was taken.
+-- If damage is ahead, what was written is the output for what was taken. For the lossy conversions
+-- nothing is damage.
 pub output-to-damage : (c : Conversion) (is_last : Bool) (a ahead x : List ℕ) → Converts c is_last a ahead x →
     IsDamagedAhead c is_last ahead → IsOutput c a x
 output-to-damage (Encode word) is_last a ahead x h damage = (h.text, h.is_text, h.written_is)

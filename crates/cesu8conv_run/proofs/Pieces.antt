@@ -28,7 +28,8 @@ filled-up room tail post filled written fits within =
     ∙ ap (λ y. take filled room ++ take written y) (drop_at (take filled room) (tail ++ post) filled front)
     ∙ ap (λ y. take filled room ++ y) (take-append-le written tail post within)
 
--- What was converted of a piece, and the next n bytes of it.
+-- If the first `at` bytes of a piece became x, and the next n became y, the first at + n bytes
+-- became x and y, joined.
 pub next-converted : Concat → (c : Conversion) (is_last : Bool) (bytes x y : List ℕ) (at n : ℕ) →
     Converts c is_last (take at bytes) (drop at bytes) x →
     Converts c is_last (take n (drop at bytes)) (drop n (drop at bytes)) y →
@@ -38,7 +39,8 @@ next-converted concat c is_last bytes x y at n before h =
     (converts-append concat c is_last (take at bytes) (take n (drop at bytes)) (drop n (drop at bytes)) x y
     (rw (take-append-drop n (drop at bytes)) before) h)
 
--- Steps, and another one, which writes to the buffer after them, are one step.
+-- Some steps (`all` is their sum), and another one, which writes to the buffer after them, are
+-- together one step.
 pub steps-joined : Concat → (c : Conversion) (is_last : Bool) (bytes room tail post : List ℕ) (all step : Step) →
     IsStep c bytes is_last room all → IsStep c (take (length bytes - all.read) (drop all.read bytes)) is_last tail step →
     IsStep c bytes is_last (take all.written room ++ (tail ++ post)) (record {
@@ -73,7 +75,8 @@ takes-none c is_last bytes w = record {
   appended = Appends-nil w;
 }
 
--- What was taken of a piece, and then steps whose output was written.
+-- If `TakesPiece` holds for the first `at` bytes of a piece, and the output of a step after them is
+-- written, it holds for the bytes up to the end of that step.
 pub takes-more : Concat → (c : Conversion) (is_last : Bool) (bytes room : List ℕ) (at : ℕ) (step : Step) (w0 w1 w2 : Option (List ℕ)) →
     TakesPiece c bytes is_last at w0 w1 → IsStep c (take (length bytes - at) (drop at bytes)) is_last room step →
     Appends w1 w2 (take step.written room) → TakesPiece c bytes is_last (at + step.read) w0 w2
@@ -87,7 +90,8 @@ takes-more concat c is_last bytes room at step w0 w1 w2 h last appended =
       appended = Appends-trans w0 w1 w2 h.output front h.appended appended;
     }
 
--- What was taken of a piece, and then steps of whose output only some was written.
+-- If `TakesPiece` holds for the first `at` bytes of a piece, and only some of the output of a step
+-- after them is written, `BreaksPiece` holds.
 pub breaks-more : Concat → (c : Conversion) (is_last : Bool) (bytes room : List ℕ) (at : ℕ) (step : Step) (w0 w1 w2 : Option (List ℕ)) →
     TakesPiece c bytes is_last at w0 w1 → IsStep c (take (length bytes - at) (drop at bytes)) is_last room step →
     ((written : List ℕ) × (rest : List ℕ) × (take step.written room ≡ written ++ rest) × Appends w1 w2 written) →
@@ -103,7 +107,7 @@ breaks-more concat c is_last bytes room at step w0 w1 w2 h last w =
       appended = Appends-trans w0 w1 w2 h.output w.0 h.appended w.3;
     }
 
--- All that was taken was written.
+-- If `TakesPiece` holds, all output was written, so `BreaksPiece` holds with an empty rest.
 pub takes-some : (c : Conversion) (is_last : Bool) (bytes : List ℕ) (at : ℕ) (w0 w1 : Option (List ℕ)) →
     TakesPiece c bytes is_last at w0 w1 → BreaksPiece c bytes is_last w0 w1
 takes-some c is_last bytes at w0 w1 h = record {
@@ -114,7 +118,7 @@ takes-some c is_last bytes at w0 w1 h = record {
   appended = h.appended;
 }
 
--- If a step at the end of the input needs more, all bytes were taken.
+-- If a step at the end of the input needs more input, all bytes were taken.
 pub all-taken : (c : Conversion) (is_last : Bool) (bytes room : List ℕ) (at : ℕ) (step : Step) → at ≤ length bytes →
     IsStep c (take (length bytes - at) (drop at bytes)) is_last room step → step.next ≡ next.Input → is_last ≡ true →
     at + step.read ≡ length bytes

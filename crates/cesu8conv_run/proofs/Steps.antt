@@ -157,7 +157,7 @@ some-are-left states.OutputFull is_last e = λ same. cc
 some-are-left states.Incomplete is_last e = λ same. cc
 some-are-left states.Malformed is_last e = λ same. cc
 
--- Where a call stops, no character begins, whatever follows.
+-- If a call stops, no character begins at the next byte, whatever follows.
 pub none-begins-ahead : (from : List ℕ → List ℕ) (rest : List ℕ) (state : State) (is_last : Bool) →
     (state ≡ states.Incomplete → IsPartial from rest) → (state ≡ states.Malformed → NeverBegins from rest) →
     next_after state is_last ≡ next.Stop → (more : List ℕ) → MayFollow is_last more → BeginsNone from (rest ++ more)
@@ -168,7 +168,8 @@ none-begins-ahead from rest states.Incomplete true partial never e more follows 
 none-begins-ahead from rest states.Incomplete false partial never e more follows = cc
 none-begins-ahead from rest states.Malformed is_last partial never e more follows = never refl more
 
--- A call of `cesu8_stream` is a step of a conversion between these two ways of writing.
+-- A call of `cesu8_stream` is a step of a conversion. `from` and `to` are its two ways of writing:
+-- they map a text to the bytes that are read and to those that are written.
 pub converted-step : (c : Conversion) (from to : List ℕ → List ℕ) (widest : ℕ) (bytes : List ℕ) (is_last : Bool) (old new : List ℕ)
     (p : Progress) (step : Step) →
     ((taken ahead text : List ℕ) → IsWritten from taken text → IsTextOf c is_last taken ahead text) →
@@ -195,7 +196,7 @@ converted-step c from to widest bytes is_last old new p step text_of to_is damag
           h.malformed.0 (sym a.2 ∙ n) more follows));
     }
 
--- A call on a prefix of the bytes is a step of the mixed conversion.
+-- A call that decodes only a prefix of the bytes is a step of the mixed conversion.
 pub front-step : (w : FlavorWord) (bytes : List ℕ) (is_last : Bool) (len widest : ℕ) (old new : List ℕ) (p : Progress) →
     ConvertsPiece (encoding (flavor_of w)) utf8 widest (take len bytes) p old new →
     IsStep (Mixed w) bytes is_last new (record { read = p.read; written = p.written; replaced = 0; next = next.Step })
@@ -217,7 +218,7 @@ front-step w bytes is_last len widest old new p h =
       damage = λ n. cc;
     }
 
--- Passing UTF-8 at the start of the bytes through is a step of the mixed conversion.
+-- Copying UTF-8 at the start of the bytes is a step of the mixed conversion.
 pub passed-step : (w : FlavorWord) (bytes : List ℕ) (is_last : Bool) (room : List ℕ) (len : ℕ) → len ≤ length bytes →
     len ≤ length room → IsUtf8 (take len bytes) → take len room ≡ take len bytes →
     IsStep (Mixed w) bytes is_last room (record { read = len; written = len; replaced = 0; next = next.Step })
@@ -234,7 +235,8 @@ passed-step w bytes is_last room len within fits u same = record {
   damage = λ n. cc;
 }
 
--- A step that reads and writes nothing keeps the promise if it says correctly what it needs.
+-- A step that reads and writes nothing keeps the promise if it does not stop, and needs more input
+-- only before the end.
 pub nothing-step : (c : Conversion) (bytes : List ℕ) (is_last : Bool) (room : List ℕ) (step : Step) (after : Next) →
     step.read ≡ 0 → step.written ≡ 0 → step.next ≡ after → (after ≡ next.Input → is_last ≡ false) → after ≢ next.Stop →
     IsStep c bytes is_last room step
@@ -283,7 +285,8 @@ mixed-replaces w is_last byte rest damage = record {
   written_is = sym utf8-of-replacement;
 }
 
--- The replacement of the first byte, if there is one.
+-- If the conversion `d` replaces each byte at which damage for `c` begins, it replaces the first of
+-- any bytes that begin with damage for `c`.
 pub first-replaced : (c d : Conversion) (bytes : List ℕ) (is_last : Bool) → ((byte : ℕ) (rest : List ℕ) →
     IsDamagedAhead c is_last (byte ∷ rest) → Converts d is_last (byte ∷ []) rest (0xEF ∷ 0xBF ∷ 0xBD ∷ [])) →
     0 < length bytes → IsDamagedAhead c is_last bytes →

@@ -11,7 +11,7 @@ use Rattle.cesu8conv_run.specs.declared.conversion.FlavorWord.TheVariants as wor
 use Rattle.cesu8conv_run.specs.declared.conversion.Conversion.{Conversion}
 use Rattle.cesu8conv_run.specs.declared.conversion.Conversion.TheVariants.{Encode, Decode, Lossy, Mixed, MixedLossy}
 
--- The flavor that the second word names.
+-- The flavor that the second word of the command line names.
 abbrev pub flavor_of : FlavorWord → Flavor
 flavor_of words.Cesu8 = encodings.Cesu8
 flavor_of words.Mutf8 = encodings.Mutf8
@@ -96,7 +96,7 @@ IsOutput (Mixed word) input output =
 IsOutput (MixedLossy word) input output =
     (text : List ℕ) × IsMixed true (flavor_of word) input text × (output ≡ utf8 text)
 
--- The bytes begin with damage: no character of the command's input begins them. For `Mixed` this
+-- The bytes begin with damage: no character that the command can read begins them. For `Mixed` this
 -- only says that no character of the encoding does: that none of UTF-8 does either is tested, and
 -- not proved. The lossy commands know no damage.
 abbrev pub IsDamage : Conversion → List ℕ → Type 0

@@ -24,7 +24,8 @@ pub record StopsAt (c : Conversion) (offset : ℕ) (bytes : List ℕ) (old new :
   pub appended : Appends old new output
   pub damage : IsDamage c (drop offset bytes)
 
--- A beginning of the output was appended: some of what the first bytes of the input became.
+-- A beginning of the output was appended: some of what the first bytes of the input became. The
+-- `rest` of that was not.
 pub record WritesSome (c : Conversion) (bytes : List ℕ) (old new : Option (List ℕ)) : Type 0 where
   pub taken : List ℕ
   pub ahead : List ℕ
@@ -34,7 +35,7 @@ pub record WritesSome (c : Conversion) (bytes : List ℕ) (old new : Option (Lis
   pub converts : Converts c true taken ahead (output ++ rest)
   pub appended : Appends old new output
 
--- How a run stops at a fault.
+-- What was appended if a run stops at a fault.
 abbrev pub StopsBy : Conversion → Fault → (input old new : Option (List ℕ)) → Type 0
 StopsBy c (Damage offset ahead) input old new = IfSome input (λ bytes. StopsAt c offset bytes old new)
 StopsBy c other input old new = IfSome input (λ bytes. WritesSome c bytes old new)
@@ -67,8 +68,8 @@ pub record TakesPiece (c : Conversion) (bytes : List ℕ) (is_last : Bool) (read
   pub converts : Converts c is_last (take read bytes) (drop read bytes) output
   pub appended : Appends old new output
 
--- The conversion of a piece came as far as it goes. If damage does not begin there, all of the last
--- piece was taken.
+-- The conversion of a piece came as far as it goes. If no damage begins there, and the piece is the
+-- last one, all of it was taken.
 pub record IsPiece (c : Conversion) (bytes : List ℕ) (is_last : Bool) (piece : Piece) (old new : Option (List ℕ)) : Type 0 where
   pub takes : TakesPiece c bytes is_last piece.read old new
   pub all : piece.is_damaged ≡ false → is_last ≡ true → piece.read ≡ length bytes
@@ -84,7 +85,7 @@ pub record IsRound (c : Conversion) (r1 r2 w1 w2 : Option (List ℕ)) (unread wi
   pub all : round.is_damaged ≡ false → round.is_last ≡ true → round.left ≡ 0
   pub damage : round.is_damaged ≡ true → IsDamagedAhead c round.is_last (take round.left window)
 
--- Some of what the first bytes of a piece became was appended.
+-- Some of what the first bytes of a piece became was appended, and the `rest` of that was not.
 pub record BreaksPiece (c : Conversion) (bytes : List ℕ) (is_last : Bool) (old new : Option (List ℕ)) : Type 0 where
   pub read : ℕ
   pub output : List ℕ

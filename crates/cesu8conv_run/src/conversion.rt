@@ -15,7 +15,7 @@ pub enum Conversion {
     MixedLossy(FlavorWord),
 }
 
-/// The encoding that the second word names.
+/// The encoding that the second word of the command line names.
 #[derive(Clone, Copy)]
 pub enum FlavorWord {
     Cesu8,

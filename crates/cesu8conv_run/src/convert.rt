@@ -1,6 +1,6 @@
 //! A conversion of a stream: any input, in constant memory. The stream is read into one buffer,
-//! converted into another a step at a time, and that is written. After each write, what was
-//! written is the conversion of what was taken of the input, and so it is at the end.
+//! converted into another a step at a time, and that is written. After each write, what was written
+//! is the conversion of the input that was taken. At the end that is all of the input.
 //!
 //! Rattle requires that each loop ends, so these count to `u64::MAX`, which no run reaches. Of the
 //! lines after the loops, only the error in `write_whole` is reached, if a write accepts no byte.

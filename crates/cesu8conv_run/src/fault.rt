@@ -12,6 +12,7 @@ pub enum Fault {
     Read(io::Error),
     /// A write failed, or accepted no byte.
     Write(io::Error),
-    /// A buffer is shorter than a character, or the input has 2^64 bytes or more.
+    /// A buffer has fewer than 8 bytes (`LEAST` in `convert.rt`), or the length of the input comes
+    /// near 2^64.
     Limit,
 }

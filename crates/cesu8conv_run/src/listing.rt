@@ -1,6 +1,6 @@
-//! The list of damage that the command `check` prints: a line for each stretch of bytes in no
-//! character. With tabs between, it has the name of the file if there are several, the offset, the
-//! number of the line, the number of bytes, and the first 16 bytes in hexadecimal.
+//! The list of damage that the command `check` prints: a line for each run of damaged bytes
+//! (`Stretch`). With tabs between, it has the name of the file if there are several, the offset,
+//! the number of the line, the number of bytes, and the first 16 bytes in hexadecimal.
 
 use crate::hex::Hex;
 use crate::inputs::line_ends;

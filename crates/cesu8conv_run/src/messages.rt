@@ -1,4 +1,4 @@
-//! What the program prints of faults, and the status that it ends with.
+//! What the program prints about faults, and the status that it ends with.
 
 use crate::conversion::Conversion;
 use crate::fault::Fault;
@@ -20,8 +20,8 @@ pub const IO: u8 = 4;
 
 /// Says why a conversion stopped, and returns the status.
 ///
-/// At damage, `window` begins with what was read from the damage on, and `lines` of the inputs
-/// counts its line ends too.
+/// At damage, `window` begins with the bytes from the damage on that were read. `lines` of the
+/// inputs counts the line ends in them too.
 pub fn explain(
     rt: &HostRuntime,
     conversion: Conversion,

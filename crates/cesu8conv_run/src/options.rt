@@ -17,7 +17,8 @@ pub struct Options<'a> {
     pub task: Task,
     /// The file to write, in place of standard output.
     pub output: Option<&'a str>,
-    /// Whether nothing is printed but what was asked for.
+    /// Whether messages about damage are left out, and progress that was not asked for. Other
+    /// errors are printed in any case.
     pub is_quiet: bool,
     /// Whether replaced bytes make the status 1.
     pub fails_on_damage: bool,

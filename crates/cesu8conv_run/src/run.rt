@@ -19,7 +19,8 @@ const WINDOW: usize = 65536;
 
 const ROOM: usize = 131072;
 
-/// From this many bytes on, progress is shown on a terminal without the option `--progress`.
+/// If the files have more bytes than this, progress is shown at a terminal even without
+/// `--progress`, unless `--quiet` is given.
 const LARGE: u64 = 100_000_000;
 
 /// Does a task on files, in two buffers, and returns the status.
@@ -179,7 +180,8 @@ fn list_damage(
             let _ = listing.finish();
             match fault {
                 Fault::Read(error) => say(rt, input.name(), &error),
-                // No other fault occurs: `Nowhere` accepts all bytes, and `Lossy` replaces damage.
+                // No other fault occurs: `Nowhere` accepts all bytes, `Lossy` replaces damage, and
+                // the buffers are long enough.
                 _ => IO,
             }
         }

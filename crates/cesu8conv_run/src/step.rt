@@ -50,7 +50,7 @@ pub enum Next {
     Stop,
 }
 
-/// Takes one step of the conversion. At the end of the input, `is_last`, no bytes follow.
+/// Takes one step of the conversion. If `is_last` is true, the input ends after these bytes.
 pub fn take_step(conversion: Conversion, bytes: &[u8], is_last: bool, room: &mut [u8]) -> Step
     ensures { IsStep conversion bytes.now is_last room.new result }
 {
@@ -106,7 +106,7 @@ fn mixed_lossy_step(flavor: FlavorWord, bytes: &[u8], is_last: bool, room: &mut 
     replace(mixed_step(flavor, bytes, is_last, room), room)
 }
 
-/// Decodes the whole characters in the first bytes alone. Only the contract uses `is_last`.
+/// Decodes the whole characters in the first `len` bytes. Only the contract uses `is_last`.
 fn front_step(flavor: FlavorWord, bytes: &[u8], len: usize, is_last: bool, room: &mut [u8]) -> Step
     requires { len ≤ length bytes.now }
     ensures { IsStep (Conversion.Mixed flavor) bytes.now is_last room.new result }
@@ -159,7 +159,8 @@ pub fn nothing(next: Next) -> Step
     }
 }
 
-/// What comes after the bytes that `cesu8_stream` converted.
+/// The step that a call of `cesu8_stream` took. At the end of the input, a part of a character is
+/// damage.
 fn after(front: Progress, is_last: bool) -> Step
     ensures { IsAfter front is_last result }
 {
@@ -263,8 +264,8 @@ fn encoded_len(flavor: FlavorWord, bytes: &[u8]) -> usize
     len.min(most)
 }
 
-/// How many bytes the character of UTF-8 has that begins the bytes, if the encoding writes it in
-/// another way; and 0 if none does.
+/// How many bytes the character of UTF-8 has that these bytes begin with, if the encoding writes it
+/// in another way, and otherwise 0. This looks at the first byte only.
 fn utf8_len(flavor: FlavorWord, bytes: &[u8]) -> usize
     ensures { result ≤ 4 }
 {

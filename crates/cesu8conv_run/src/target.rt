@@ -88,7 +88,8 @@ impl Write for Target<'_> {
     }
 }
 
-/// Opens the draft for a file, with the permissions of that file if it is there.
+/// Opens the draft for a file, with the permissions of that file if it is there. What is no regular
+/// file, such as a device, is opened itself, and has no draft.
 fn open_file(rt: &HostRuntime, name: &str) -> io::Result<(File, Option<Draft>)> {
     let Ok(old) = fs::metadata(rt, name) else {
         let (file, draft) = open_draft(rt, name)?;

@@ -1,5 +1,5 @@
 //! Tests of `cesu8_cli_run`, with a reader and a writer that are slow or fail. The expected values
-//! were not computed by it.
+//! were not computed by that crate.
 #![tactic(auto)]
 
 #[cfg(test)]

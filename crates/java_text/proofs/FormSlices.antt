@@ -1,6 +1,7 @@
 -- Forms (a text's MUTF-8 after its length in two bytes) in a caller's buffer, mostly for
 -- `write_utf_to_slice`. `mid_of 2 room` is the part of `room` bytes after the buffer's first two,
--- and `put_mid` puts other bytes in its place.
+-- and `put_mid` puts other bytes, `mid`, in its place. `count` is the two bytes before that part,
+-- and `len` the length of the MUTF-8.
 use Rattle.std.proofs.Common.{◌≡◌, ℕ, ◌+◌, ◌/◌, ◌%◌, ◌<◌, ◌≤◌, List, [], ◌∷◌, ◌++◌, Ok, Err, refl, sym, ap, ◌∙◌, subst, arith, get_or, length, take, drop, append_assoc, length-drop}
 use Rattle.std.proofs.lemmas.Bool.{false≢true}
 use Rattle.std.proofs.lemmas.List.{take-append-drop, drop-append-le, length-take, length-take-le}
@@ -90,7 +91,7 @@ form_misfits text old new len fault len_is misfits long short same = record {
 }
 
 -- The lossy reading of at most 65,535 bytes has at most three times as many (`LossyBound`), so its
--- length fits `usize`.
+-- length fits `usize`, and the error is not `TooLong`.
 pub never_too_long : LossyBound → (bytes old new : List ℕ) (fault : LossySliceFault) → length bytes ≤ 65535 → fault ≡ lossy.TooLong →
     WritesLossyReading (λ text. text ≡ reading Mutf8 bytes) (Err fault) old new → ⊥
 never_too_long bound bytes old new fault small is writes =

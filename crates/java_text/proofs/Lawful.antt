@@ -8,7 +8,8 @@ use Rattle.java_text.specs.Form.{HasForm, java_form, BeginsWithForm}
 use Rattle.java_text.specs.Laws.{FormIsCut, OneForm, NoFormBeginsAnother, HaveForms, AreReadInTurn, Sequence, EmptyHasNone, OneMore, RestIsRead, NoneFollows, Bounds}
 use Rattle.java_text.proofs.Forms.{count_in_form, counted_in_form, rest_in_form, none_begins_truncated}
 
--- Bytes that begin with a form have its parts.
+-- If bytes begin with a form, no byte is missing, and the parts that the count gives are the length
+-- of the MUTF-8, the MUTF-8 and the rest.
 pub form_is_cut_law : FormIsCut
 form_is_cut_law bytes text rest form = (
   (λ truncated. none_begins_truncated bytes truncated text rest form),

@@ -28,7 +28,7 @@ pub fn assert_readings(rt: &impl Abort, alloc: Global, bytes: &[u8]) {
     assert_same(rt, expect_readings(alloc, bytes), bytes);
 }
 
-/// The first bytes of a fill, with `put` inserted at one offset.
+/// A fill (a few bytes), repeated to this length, with `put` inserted at one offset.
 pub fn inserted(
     rt: &impl Abort,
     alloc: Global,

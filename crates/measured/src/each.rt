@@ -1,6 +1,6 @@
-//! A call on each of many texts. C passes bytes, which must be tested for UTF-8 before they are a
-//! text. Here all texts are tested at once, so the time of the test is small beside that of the
-//! calls.
+//! A call on each of many texts. An export gets bytes, which must be tested for UTF-8 before they
+//! are a text. Here all texts are tested at once, so the time of the test is small beside that of
+//! the calls.
 
 ghost use Rattle.std.specs.Prelude.{◌<◌};
 

@@ -1,12 +1,13 @@
 //! The calls of `simd_cesu8` as `bench` measures them, over byte slices.
 //!
-//! C passes each slice as a pointer and a length, as `bench/measured.h` declares it. An export
-//! calls the library, and copies the result to the start of `buf` if it fits. So with an empty
-//! `buf` it costs as much as the library's call, and returns the length of the result. The calls
-//! whose names end in `to_slice` write to `buf` directly. Calls that take a text first test the
-//! input for UTF-8, and this test is measured too. The calls whose names end in `each` take texts
-//! of `length` bytes, one after another, and add up the results for all of them, `times` times.
-//! They test all texts at once, so there the cost of the test is small.
+//! `bench/driver.rs` and `tests/costs.c` call the exports. They pass each slice as a pointer and a
+//! length, as `bench/measured.h` declares it. An export calls the library, and copies the result to
+//! the start of `buf` if it fits. So with an empty `buf` it costs as much as the library's call,
+//! and returns the length of the result. The calls whose names end in `to_slice` write to `buf`
+//! directly. Calls that take a text first test the input for UTF-8, and this test is measured too.
+//! The calls whose names end in `each` take texts of `length` bytes, one after another, and add up
+//! the lengths for all of them, `times` times. They test all texts at once, so there the cost of
+//! the test is small.
 //!
 //! The exports have no contracts: they are only proved to be safe and to return. The driver of
 //! `bench` compares their results with a plain codec before it measures.
@@ -114,7 +115,8 @@ pub extern "C" fn measured_encoded_len_each(texts: &[u8], length: usize, times: 
     )
 }
 
-/// Calls this test of the kernel in use. The outcome's length is 1 for yes and 0 for no.
+/// Calls `active::contains_utf8_4_byte_char_header`. The outcome's length is 1 for yes and 0 for
+/// no.
 #[unsafe(no_mangle)]
 pub extern "C" fn measured_contains_utf8_4_byte_char_header(
     bytes: &[u8],
@@ -124,7 +126,8 @@ pub extern "C" fn measured_contains_utf8_4_byte_char_header(
     outcome_of_length(usize::from(active::contains_utf8_4_byte_char_header(bytes)))
 }
 
-/// Calls this test of the kernel in use. The outcome's length is 1 for yes and 0 for no.
+/// Calls `active::contains_null_or_utf8_4_byte_char_header`. The outcome's length is 1 for yes and
+/// 0 for no.
 #[unsafe(no_mangle)]
 pub extern "C" fn measured_contains_null_or_utf8_4_byte_char_header(
     bytes: &[u8],

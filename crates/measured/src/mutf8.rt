@@ -1,6 +1,6 @@
 //! The exports for MUTF-8. Each calls the function of `simd_cesu8::mutf8` that it names, and
 //! returns an `Outcome` for C. Those that write nothing take a buffer too, so that C can call them
-//! all by one type. `without_result` gets whether the input is invalid.
+//! all by one type. The argument of `without_result` says whether the input is invalid.
 
 use crate::each::outcome_of_sum;
 use crate::outcome::{

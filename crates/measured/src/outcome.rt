@@ -6,7 +6,8 @@ use std::alloc::AllocError;
 
 /// The result of a call, as bench/measured.h declares it for C (`measured_outcome`). If there is no
 /// result although the input is valid, an allocation failed, the buffer is too short, or the length
-/// of a lossy reading does not fit `usize`.
+/// of a lossy reading does not fit `usize`. A call on many texts has other reasons, which
+/// `outcome_of_sum` lists.
 #[repr(C)]
 #[derive(Drop)]
 pub struct Outcome {

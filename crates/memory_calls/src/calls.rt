@@ -14,8 +14,8 @@ use test_cases::flavors::Flavor;
 /// Makes the allocations and the calls of the line, and prints the result of each call. Then it
 /// prints how many more allocations succeed.
 ///
-/// `tests/memory.sh` makes the third allocation of the process fail. How many come first decides
-/// which allocation of a call that is.
+/// `tests/memory.sh` makes the third allocation of `main` fail. How many allocations come before
+/// the calls decides which one of a call that is.
 pub fn make_all(rt: &HostRuntime, line: &[u8], bytes: &[u8]) -> io::Result<()> {
     let Some((requests, calls)) = parse_line(line) else {
         return Err(ErrorKind::InvalidInput.into());
@@ -93,7 +93,8 @@ fn parse(call: &str) -> Option<(&str, Flavor)> {
     }
 }
 
-/// Makes a call that takes a string.
+/// Makes a call that takes a string. A call whose name ends in `_full`, `_room` or `_less` appends
+/// to a buffer that is full, has just enough capacity, or has one byte less.
 fn make_of_text(rt: &HostRuntime, call: &str, flavor: Flavor, text: &str) -> io::Result<()> {
     match call {
         "needs_encoded" => print_outcome(rt, yes_or_no(flavors::needs_encoded(flavor, text)), &[]),

@@ -1,6 +1,8 @@
--- A vector whose first lanes are those of one vector, and whose other lanes are those of another.
--- `join_lanes` in `front_to_slice.rt` makes it of the input and of what a buffer has. It is stored
--- whole, so the bytes after the copied ones stay as they were.
+-- Lemmas on a vector with the first lanes of one vector and the other lanes of another.
+-- `join_lanes` in `front_to_slice.rt` makes one of the input and of what a buffer has. It is stored
+-- whole, so the bytes after the copied ones stay as they were. `sel_l tests xs ys` takes the lane
+-- of `xs` if its test is true, and otherwise that of `ys`. `put_chunk i xs ys` is `xs` with `ys`
+-- stored at offset i.
 use Rattle.std.proofs.Common.{◌≡◌, ℕ, zero, suc, ◌+◌, ◌≤◌, List, [], ◌∷◌, ◌++◌, refl, sym, ap, ◌∙◌, arith, length, map, take, drop, replicate, w8, ltb}
 use Rattle.std.specs.List.{range_with_len}
 use Rattle.std.proofs.lemmas.Bool.Decides.{nat_tests}
@@ -10,8 +12,7 @@ use Rattle.std.proofs.lemmas.Simd.{tops_compared, zip2_splat}
 use lib.Lanes.{sel_l, zip2, top, put_chunk}
 use Rattle.cesu8_bytes.proofs.lists.Lanes.{below}
 
--- The lanes are numbered from `at` on. If none has a number below the bound, the selection is the
--- other vector.
+-- The lanes are numbered from `at` on. If no number is below the bound, the selection is `ys`.
 none_before : (bound at : ℕ) (xs ys : List ℕ) → length xs ≡ length ys → bound ≤ at →
     sel_l (map (λ i. ltb i bound) (range_with_len at (length xs))) xs ys ≡ ys
 none_before bound at [] [] long le = refl

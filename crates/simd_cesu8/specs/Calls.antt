@@ -17,8 +17,8 @@ pub record Encodes {E : Type 0} (f : Flavor) (utf8 : List ℕ) (result : Result 
   pub succeeds : ¬ (NeedsEncoding f (chars utf8)) → IsOk result
   pub capacity : BuildsBytesOfCapacity result (length (encoding_of f (chars utf8)))
 
--- A call that decodes. `keeps` says that the bytes are borrowed, and `reads` which text they have.
--- If they have none, the call returns an error.
+-- A call that decodes. It borrows the bytes exactly when `keeps` holds, and `reads` says which text
+-- they have. If they have none, the call returns an error.
 pub record DecodesAs (keeps : Type 0) (reads : List ℕ → Type 0) (bytes : List ℕ) (result : Result CowText DecodeFault) : Type 0 where
   pub text : IfText result (λ text. reads text)
   pub invalid : OnInvalid result ((text : List ℕ) → ¬ (reads text))
@@ -31,8 +31,9 @@ pub record DecodesAs (keeps : Type 0) (reads : List ℕ → Type 0) (bytes : Lis
 abbrev pub DecodesStrictly : Flavor → List ℕ → Result CowText DecodeFault → Type 0
 DecodesStrictly f bytes = DecodesAs (IsUnchangedUtf8 f bytes) (IsStrictReading f bytes) bytes
 
--- A call that decodes, and replaces each ill-formed byte. If its only text is the lossy reading,
--- the text's length is that of the lossy reading.
+-- A call that decodes, and replaces each ill-formed byte. It borrows the bytes exactly when `keeps`
+-- holds, and `reads` says which text they have. If they have no other text than the lossy reading,
+-- the result has the length of the lossy reading.
 pub record DecodesLossily {E : Type 0} (f : Flavor) (keeps : Type 0) (reads : List ℕ → Type 0) (bytes : List ℕ) (result : Result CowText E) : Type 0 where
   pub reading : IfText result (λ text. reads text)
   pub text_length : ((text : List ℕ) → reads text → text ≡ reading_of f bytes) → AnswersTextOfLength result (lossy_length f bytes)

@@ -9,6 +9,7 @@ use Rattle.simd_cesu8.specs.declared.error.LossySliceFault.TheVariants as lossy
 
 -- The result is written to the buffer, or the buffer is too short.
 pub record WritesAnswer (answer : List ℕ) (result : Result ℕ TooShort) (old new : List ℕ) : Type 0 where
+  -- If the call succeeds, the buffer begins with the result, and its other bytes are unchanged.
   pub written : IfOk result (λ len. StandsAtFront answer len old new)
   -- The call succeeds exactly when the result fits.
   pub fits : IsOk result ↔ length answer ≤ length old

@@ -2,8 +2,8 @@
 //!
 //! Decoding first finds how many bytes at the start are the same in UTF-8. A call borrows if these
 //! are all bytes, and otherwise decodes the rest. The mode is a type parameter: `EncodingAlone`
-//! accepts only the encoding, and `Lenient` also UTF-8 as a whole. `decode_strict_front` has a fast
-//! path for short ASCII, with one vector.
+//! accepts only the encoding, and `Lenient` also UTF-8 as a whole, which it borrows too.
+//! `decode_strict_front` has a fast path for short ASCII, with one vector.
 
 ghost use Rattle.std.specs.Prelude.{◌↔◌, IsTrue, take};
 ghost use Rattle.std.specs.Str.{chars};

@@ -1,6 +1,6 @@
 //! All that this crate uses of the crates below it, for both flavors, except the kernels in
-//! `implementation`. A codec that finds no result returns an error of its own; the functions here
-//! return it as an error of this crate.
+//! `implementation`. Those crates have errors of their own. The functions here return the errors of
+//! this crate instead.
 
 ghost use Rattle.std.specs.Prelude.{◌≡◌, length, IfOk};
 ghost use Rattle.std.specs.Str.{chars};
@@ -76,7 +76,7 @@ pub fn decode_to_slice<F: Flavor, A: Accepts>(
 {
     match to_slice::decode_to_slice::<F, A, StrictReading>(bytes, buf) {
         Ok(len) => Ok(len),
-        // A strict reading is never too long.
+        // The text is never longer than the input, so `TooLong` does not occur.
         Err(WriteError::NoText) | Err(WriteError::TooLong) => {
             Err(DecodeSliceFault::Invalid(DecodingError(())))
         }
@@ -97,7 +97,7 @@ pub fn decode_lossy_to_slice<F: Flavor, A: Accepts>(
 {
     match to_slice::decode_to_slice::<F, A, LossyReading>(bytes, buf) {
         Ok(len) => Ok(len),
-        // All bytes have a lossy reading.
+        // All bytes have a lossy reading, so `NoText` does not occur.
         Err(WriteError::NoText) | Err(WriteError::TooLong) => Err(LossySliceFault::TooLong),
         Err(WriteError::NoRoom(no_room)) => {
             Err(LossySliceFault::TooShort(TooShort::new(no_room.needed)))

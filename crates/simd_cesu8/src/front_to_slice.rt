@@ -3,7 +3,8 @@
 //!
 //! The fast path loads 64 bytes of the input as one vector. If the string's bytes in it are
 //! unchanged ASCII, it replaces the first `len` lanes of the buffer's first 64 bytes by them, and
-//! stores these 64 bytes. The rest of the buffer is unchanged, and no branch depends on the length.
+//! stores these 64 bytes. The rest of the buffer is unchanged. The only branch on the length is
+//! whether it is at most 64.
 
 ghost use Rattle.std.specs.Prelude.{◌≡◌, ◌++◌, ◌≤◌, false, IsTrue, length, take, drop};
 ghost use Rattle.simd_cesu8.specs.Class.{IsUnchangedUtf8};

@@ -1,6 +1,6 @@
-//! Functions that only the other crates of this repository use: the kernels, which find a byte that
-//! encoding changes, the test for UTF-8, and a call that decodes one of several consecutive strings
-//! to a caller's buffer. These names may change.
+//! Functions that only the other crates of this repository use: the kernels, which test whether a
+//! byte of a text needs conversion, the test for UTF-8, and a call that decodes one of several
+//! consecutive strings to a caller's buffer. These names may change.
 
 ghost use Rattle.std.specs.Prelude.{◌≡◌, IfSome, IfNone, IsUtf8, take};
 ghost use Rattle.simd_cesu8.specs.Encoding.{Mutf8};

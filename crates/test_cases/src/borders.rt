@@ -1,6 +1,7 @@
 //! The first and last scalar values of each encoded length, and some between, with their bytes in
 //! UTF-8 and in both encodings. tests/peers.sh reads their names here, and tests/memory.sh their
-//! bytes too. The former has the total length of their UTF-8, and the latter their number.
+//! bytes too. The former checks the total length of their UTF-8, and the latter their number, so a
+//! new row changes both scripts.
 
 use crate::flavors::Flavor;
 

@@ -1,11 +1,11 @@
-//! The calls that decode as values, for loops over them, and their outcomes as values that can be
-//! compared.
+//! The calls that decode all of their input, as values for loops over them, and their outcomes, as
+//! values that can be compared.
 
 use crate::flavors::{Decoded, Flavor, decode, decode_lossy, decode_lossy_strict, decode_strict};
 use simd_cesu8::DecodeFault;
 use std::alloc::Global;
 
-/// A call that decodes.
+/// A call that decodes all of its input.
 #[derive(Clone, Copy, PartialEq, Eq, Debug)]
 pub enum Decoder {
     Strict,
@@ -14,7 +14,7 @@ pub enum Decoder {
     LossyLenient,
 }
 
-/// Each call that decodes.
+/// Each of these calls.
 pub const DECODERS: [Decoder; 4] = [
     Decoder::Strict,
     Decoder::Lenient,

@@ -2,8 +2,8 @@
 
 use std::alloc::{AllocError, Global};
 
-/// Characters of each width, of which some are valid in one encoding only. The last fill mixes
-/// three widths, so that blocks and windows end at different characters of it.
+/// Characters of each width. C0 80 is valid in MUTF-8 only. The last fill mixes three widths, so
+/// that blocks and windows end at different characters of it.
 pub const FILLS: [&[u8]; 6] = [
     b"a",
     b"\xC3\xA9",

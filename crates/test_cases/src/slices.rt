@@ -95,7 +95,7 @@ impl SliceCall<'_> {
 }
 
 /// Makes a call with a buffer of each of these lengths. Compares what it returns and leaves in the
-/// buffer with the bytes `due` that it has to write, or with an error if there are none.
+/// buffer with the bytes `due` that it has to write, or with `Invalid` if there are none.
 pub fn expect_in_rooms(
     alloc: Global,
     flavor: Flavor,

@@ -1,6 +1,6 @@
--- What has been copied of a file of strings, and what is left of it, for `append_strings` of
--- src/string_file.rt. The form of a text (`java_form`) is the length of its MUTF-8, as two bytes,
--- followed by the MUTF-8.
+-- The loop of `append_strings` (src/string_file.rt): what it has copied of a file of strings, and
+-- what is left of the file. The form of a text (`java_form`) is the length of its MUTF-8, as two
+-- bytes, followed by the MUTF-8.
 use Rattle.std.proofs.Common.{◌≡◌, ℕ, ◌+◌, ◌*◌, ◌≤◌, List, [], ◌∷◌, ◌++◌, length, ap, ◌∙◌, arith, append-nil, append_assoc, length-append}
 use Rattle.std.specs.List.{flat_map}
 use Rattle.std.proofs.lemmas.Grind.{flat_map-append}
@@ -11,8 +11,9 @@ use Rattle.java_text.specs.Form.{java_form, BeginsWithForm, NoFormBegins}
 use Rattle.java_text.specs.Laws.{BeginsWithForms, OneMore, NoneFollows, Bounds}
 use Rattle.uses.specs.StringFile.{NoneAreRead}
 
--- The forms of some texts were read from the source and appended to the target. The rest is left.
--- `left` shows that the count does not overflow: each form has at least two bytes.
+-- The forms of some texts were read from the source and appended to the target, which was `before`
+-- and is `now`. The rest of the source is left. The clause `left` shows that the count does not
+-- overflow: each form has at least two bytes.
 pub record CopiedSoFar (source rest before now : List ℕ) (count : ℕ) : Type 0 where
   pub texts : List (List ℕ)
   pub begins : BeginsWithForms source texts rest

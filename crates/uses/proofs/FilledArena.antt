@@ -2,7 +2,8 @@
 -- after another. It begins with no text (`none_yet`), and each round writes one more (`one_more`).
 -- If the next one does not fit, the error has how many bytes are missing (`next_missing`). `old` is
 -- the arena before the loop, and `now` the arena with `count` texts in its first `used` bytes. The
--- next call writes to the rest of `now`, which then is `part`.
+-- next call writes to the rest of `now`, which then is `part`. `d` is what `get_or` returns outside
+-- the list of texts.
 use Rattle.std.proofs.Common.{◌≡◌, ℕ, ◌+◌, ◌-◌, ◌<◌, ◌≤◌, List, [], ◌++◌, Bor, refl, sym, ◌∙◌, ap, length, get_or, take, drop, slice_range, slice_set, length-append, append-nil, append_assoc, arith}
 use borrow.Rule.Slice.PartMut.{put_mid}
 use Rattle.std.proofs.Math.Nat.{lt_of_not-le}
@@ -33,7 +34,8 @@ first_encoded_next concat texts count d inside =
     ∙ ap (λ front. front ++ encoded (get_or texts count d))
     (sym (encoding-joined concat (take count texts)))
 
--- Writing an encoding to the part after the others appends it to them.
+-- If the bytes `front` are at the start of the arena, and the bytes `text` are written to the rest,
+-- the arena begins with `front ++ text`.
 written_next : (front text old now part : List ℕ) (used len : ℕ) → StandsAtFront front used old now →
     StandsAtFront text len (slice_range now used (length now)) part →
     StandsAtFront (front ++ text) (used + len) old
@@ -80,7 +82,8 @@ one_more concat texts count used len old now part ends d inside has_end holds is
           grind (arith, common_steps, front.0, earlier);
     }
 
--- If the next text does not fit, it takes this many more bytes than are left.
+-- If the next text does not fit, `missing` is not 0, and the encodings up to this text take
+-- `missing` more bytes than the arena has.
 pub next_missing : Concat → {texts : List (Bor (List ℕ))} {count used needed : ℕ}
     {old now ends : List ℕ} (d : Bor (List ℕ)) →
     count < length texts → HoldsFirst texts count used old now ends →

@@ -1,5 +1,6 @@
 -- A log loses bytes exactly when it is no encoding, for `repair_log`. A cutting divides the log
--- into characters and replaced bytes, and its cost is the number of replaced bytes.
+-- into characters and replaced bytes, and its cost is the number of replaced bytes. The log loses
+-- bytes if every cutting of it replaces some.
 use Rattle.std.proofs.Common.{◌≡◌, ℕ, List, [], ◌∷◌, ◌++◌, map, refl, sym, ap, ◌∙◌, subst, arith}
 use Rattle.simd_cesu8.specs.Text.{IsText}
 use Rattle.simd_cesu8.specs.Encoding.{Flavor, Cesu8, encoding}
@@ -13,7 +14,7 @@ nothing : (f : Flavor) → encoding f [] ≡ []
 unfolding encoding
 nothing f = refl
 
--- A cutting that replaces nothing is the encoding of its text.
+-- The bytes of a cutting that replaces nothing are the encoding of its text.
 read_from_free : Concat → (pieces : List Piece) → ArePieces pieces → cost pieces ≡ 0 →
     IsStrictReading Cesu8 (bytes_of Cesu8 pieces) (text_of pieces)
 read_from_free concat [] are free = (tt, nothing Cesu8)
@@ -47,7 +48,7 @@ characters_cut concat (c ∷ text) is_text =
       rest.1,
     )
 
--- So an encoding loses none.
+-- So an encoding loses no bytes.
 pub loses_none : Concat → (log text : List ℕ) → IsStrictReading Cesu8 log text → LosesBytes log → ⊥
 loses_none concat log text reads loses =
     let characters = characters_cut concat text reads.0 in

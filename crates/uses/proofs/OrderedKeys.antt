@@ -31,7 +31,8 @@ in_utf16_order order store ordered i j d before inside s t reads reads_other =
     sym (order s t reads.0 reads_other.0)
     ∙ rw (reads.1, reads_other.1) (Less-from_sorted key_cmp (keys store) i j d ordered before inside)
 
--- An update at the key of one text does not change the value of any other text.
+-- An update at the key of one text does not change the value of any other text: all keys that the
+-- look-up of the other text finds are equal, and the key of the update is none of them.
 pub others_unchanged : RoundTrip → (text other : List ℕ) → IsText text → IsText other → other ≢ text →
     (key : Vec ℕ) → key.items ≡ encoding Cesu8 text →
     (old new : BTreeMap (Vec ℕ) ℕ) (value : Option ℕ) →

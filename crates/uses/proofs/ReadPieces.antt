@@ -98,7 +98,8 @@ grown_prefix before grown n k fits is =
     ap (take (length before)) is ∙ ap (λ bs. take (length before) (bs ++ replicate k 0)) (take_all n before fits)
     ∙ take-append_seam before (replicate k 0)
 
--- What is written after a prefix is unchanged by a truncation at its end.
+-- If `new` was written after `front`, a truncation to `start + end` leaves `front` and the first
+-- `end` bytes of `new`, whatever follows (`other`, `more`).
 pub written_after : (start end len : ℕ) (front new other more : List ℕ) → length front ≡ start → end ≤ length new → start + end ≤ len →
     take (start + end) (take len ((front ++ (new ++ other)) ++ more)) ≡ front ++ take end new
 written_after start end len front new other more long inside fits =
@@ -108,8 +109,8 @@ written_after start end len front new other more long inside fits =
     ∙ ap (λ n. take n (front ++ (new ++ other))) place ∙ take-append-add front (new ++ other) end
     ∙ ap (λ bs. front ++ bs) (take-append-le end new other inside)
 
--- If the bytes after the first n are moved to the start, and the others are truncated, only they
--- are left.
+-- If the bytes after the first n are moved to the start, a truncation to their number leaves just
+-- these bytes.
 pub rest_moved : (bytes new : List ℕ) (n len end : ℕ) → new ≡ copy_within bytes n end 0 → end ≡ length bytes →
     len ≡ length bytes → n ≤ length bytes → take (len - n) new ≡ drop n bytes
 rest_moved bytes new n len end is end_is len_is within =

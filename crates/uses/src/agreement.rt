@@ -1,5 +1,6 @@
-//! Calls that predict the results of others. Each function compares two calls, and is proved to
-//! return true.
+//! Calls that predict the results of others. Each function that returns a `bool` compares two
+//! calls, and is proved to return true. The contract of `append_and_encode` says that its two calls
+//! agree.
 
 ghost use Rattle.std.specs.Prelude.{◌≡◌, ◌++◌, IfOk, IsOk, IsTrue};
 ghost use Rattle.std.specs.Str.{chars};
@@ -76,8 +77,8 @@ pub fn append_and_encode(
     simd_cesu8::encode(alloc, text)?.into_vec(alloc)
 }
 
-/// Returns whether `decode_strict` restores the text that was encoded. If it needs no encoding,
-/// both calls borrow, and allocate nothing.
+/// Returns whether `decode_strict` restores the text that was encoded. If the text needs no
+/// encoding, both calls borrow, and allocate nothing.
 pub fn decodes_to_same(alloc: Global, text: &str) -> Result<bool, AllocError>
     ensures same { IfOk result (λ agree. IsTrue agree) }
     ensures succeeds { ¬ (NeedsEncoding Cesu8 (chars text.now)) → IsOk result }

@@ -1,8 +1,9 @@
 //! Callers of `simd_cesu8`, `java_text` and `cesu8_stream`, as users write them.
 //!
 //! Each has a contract of its own, which is proved from the public clauses and laws of these
-//! crates. No proof here uses how an encoding is built. A law is used by a call, such as
-//! `laws::concat()`, which does nothing. docs/CALLING.md explains them.
+//! crates. Of how an encoding is built, the proofs use only that the empty text has an empty one. A
+//! law is used by a call, such as `laws::concat()`, which does nothing. docs/CALLING.md explains
+//! them.
 #![tactic(auto)]
 
 mod agreement;

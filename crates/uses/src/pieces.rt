@@ -8,8 +8,8 @@ use simd_cesu8::laws;
 use std::alloc::AllocError;
 
 /// Decodes the whole characters at the start of the bytes, and moves their text to the end of
-/// `text`, in UTF-8. The rest of `bytes` is a part of a character, or begins with damage, as the
-/// state says: the caller appends the next piece to it, or stops.
+/// `text`, in UTF-8. The rest of `bytes` is empty or a part of a character, or begins with damage,
+/// as the state says: the caller appends the next piece to it, or stops.
 ///
 /// It allocates only to make `text` longer. If that fails, both are unchanged.
 ///

@@ -78,7 +78,8 @@ fn damaged(alloc: Global, random: &mut Random) -> Result<Pool, AllocError> {
     Ok(pool)
 }
 
-/// Appends a line of some 64 bytes. One in four is damaged.
+/// Appends a line of some 64 bytes. At most one in four is damaged, since a truncated line
+/// of ASCII is not.
 fn push_damaged_line(
     alloc: Global,
     random: &mut Random,

@@ -62,7 +62,7 @@ fn dump(alloc: Global, random: &mut Random, script: Script) -> Result<Pool, Allo
         let mut before = String::new(alloc);
         let mut after = String::new(alloc);
         let bytes = random.within(76, 290) as usize;
-        // With some five characters a word, a line has one emoji in 50 to 500 characters.
+        // With some six characters a word, a line has one emoji in 60 to 500 characters.
         let emoji_in = random.within(10, 80);
         push_words(random, script, bytes / 4, emoji_in, &mut before)?;
         push_words(random, script, bytes - bytes / 4, emoji_in, &mut after)?;

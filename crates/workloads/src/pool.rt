@@ -97,7 +97,7 @@ impl Pool {
     }
 }
 
-/// Returns a letter for a number, by the remainder of 26.
+/// Returns the letter for a number: from "a" for 0 to "z" for 25, and then from "a" again.
 fn letter(number: u32) -> u8 {
     b'a' + (number % 26) as u8
 }

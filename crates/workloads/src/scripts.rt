@@ -84,8 +84,8 @@ pub fn push_word(
     Ok(())
 }
 
-/// Appends words, with spaces between them, up to this many bytes. About one word in `emoji_in` is
-/// an emoji, or none if it is 0.
+/// Appends words, each followed by a space, until they have at least this many bytes. About one
+/// word in `emoji_in` is an emoji, or none if it is 0.
 pub fn push_words(
     random: &mut Random,
     script: Script,

@@ -228,6 +228,8 @@ impl Bench {
                     let prefix = if is_mutf8 { "mutf8_" } else { "" };
                     let bytes: Vec<Vec<u8>> =
                         texts.iter().map(|text| encoded(text, is_mutf8)).collect();
+                    // For the names of the families: "built" if the calls return new memory, and
+                    // otherwise the kind of text that they borrow.
                     let what = if bytes != utf8 {
                         "built"
                     } else if *kind == "ascii" {
@@ -257,7 +259,8 @@ impl Bench {
                     );
                     let call = format!("{prefix}decode_lossy_strict");
                     self.row(&set, &call, &bytes, format!("decode_lossy_strict {what} {size}"));
-                    // UTF-8 with characters of four bytes, which a lenient call borrows.
+                    // UTF-8 with characters of four bytes, or with U+0000 for MUTF-8. A lenient
+                    // call borrows it.
                     if what == "built" {
                         self.row_of_utf8(&set, &format!("{prefix}decode"), &utf8, size);
                         let family = format!("decode UTF-8 of four bytes {size}");

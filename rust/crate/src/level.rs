@@ -1,7 +1,8 @@
 //! The levels, and which of them a call uses. Each but `plain` has its own copy of the codec.
 //!
 //! - `v3` and `v2`: x86-64 with AVX2, BMI, LZCNT and POPCNT, or with SSE4.2 and POPCNT. With the
-//!   feature `std` the processor is asked once. A build for v3 has no other level.
+//!   feature `std` the processor is asked once, and without it the level is that of the build. A
+//!   build for v3 has no other level.
 //! - `neon`: little-endian aarch64.
 //! - `plain`: all other machines, without vectors.
 //!
@@ -15,8 +16,9 @@
 //! `table!` defines a static, which v2 imports from v3, and `block!` is the vector of 32 bytes. A
 //! copy whose functions are not called leaves no machine code.
 //!
-//! `erase.py` marks some functions in `at_level!` as `reader`, `writer` or `loop`. NEON always
-//! inlines these, and v3 all but those with `loop`. In v2 the compiler decides.
+//! In `at_level!`, `erase.py` marks the functions that Rattle always inlines and that pass no
+//! vector: as `reader` if they have no `&mut` parameter, and otherwise as `loop` or `writer`. NEON
+//! always inlines these, and v3 all but those with `loop`. In v2 the compiler decides.
 
 #[cfg(all(target_arch = "x86_64", not(any(miri, cesu8_level = "plain"))))]
 pub(crate) mod x86;

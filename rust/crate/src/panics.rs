@@ -1,5 +1,5 @@
 //! The panics, each one function for all processor levels. All but `capacity_overflow` are for
-//! tests before `unsafe` code, which the proved code never fails.
+//! tests of a bound or a capacity, which the proved code never fails.
 #![allow(dead_code)] // The level `plain` uses only the first.
 
 /// The length of a text does not fit `usize`. If an allocation fails, the process ends before this.

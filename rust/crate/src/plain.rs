@@ -1,8 +1,8 @@
 //! The calls without vectors, in safe Rust, for machines that no other level is for.
 //!
-//! It goes from piece to piece: UTF-8 of unchanged characters, a character that the encoding writes
-//! otherwise, and bytes in no encoded character. It is written by hand and tested, and no part of
-//! it is proved.
+//! Decoding goes from piece to piece: UTF-8 of unchanged characters, a character that the encoding
+//! writes otherwise, or bytes in no encoded character. This codec is written by hand and tested,
+//! and no part of it is proved.
 #![forbid(unsafe_code)]
 
 use alloc::borrow::Cow;
@@ -13,16 +13,16 @@ use core::cmp::Ordering;
 use crate::panics::capacity_overflow;
 use crate::{DecodingError, SliceError, utf8};
 
-// The functions take the encoding as an argument, so that a program has one copy of each. Those
-// that are not inlined would otherwise be copied into the calls of both.
+// The functions take the encoding as an argument, so that a program has one copy of each. Without
+// `inline(never)`, the compiler could copy them into the calls of both encodings.
 
 /// The bytes of a surrogate pair.
 const PAIR: usize = 6;
 
 const REPLACEMENT: &str = "\u{FFFD}";
 
-/// Returns the offset of the first byte that is F0 or more, or, in MUTF-8, is 00. In UTF-8 a byte
-/// of F0 or more leads four bytes.
+/// Returns the offset of the first byte that is F0 or more, or, in MUTF-8, is 00; or the length if
+/// there is none. In UTF-8 a byte of F0 or more leads four bytes.
 fn first_changed(is_mutf8: bool, bytes: &[u8]) -> usize {
     const HIGH: u64 = 0x8080_8080_8080_8080;
     let is_changed = |byte: &u8| *byte >= 0xF0 || is_mutf8 && *byte == 0;

@@ -56,8 +56,8 @@ pub(crate) fn lenient<const WITH_NULL: bool>(bytes: &[u8]) -> Option<Result<&str
     if utf8::is_utf8(bytes) { text(bytes) } else { Some(Err(DecodingError(()))) }
 }
 
-/// Returns a word that contains each of at most seven bytes, some of them twice. If there are fewer
-/// than four, its high half is 0.
+/// Returns a word that contains each of at most seven bytes, some of them more than once. If there
+/// are fewer than four, its high half is 0.
 #[inline]
 fn word_of_few(bytes: &[u8]) -> u64 {
     let half = |at: usize| {
@@ -153,7 +153,7 @@ fn any_in_words<const LEAST: u8, const OR_NULL: bool>(bytes: &[u8]) -> bool {
     let test = |word: u64| {
         let least =
             if LEAST == NON_ASCII { word } else { word & word << 1 & word << 2 & word << 3 };
-        // If some byte is 00, the subtraction sets the high bit of the lowest such byte.
+        // If a byte is 00, this sets the high bit of the lowest such byte, and otherwise of none.
         least | if OR_NULL { word.wrapping_sub(HIGH >> 7) & !word } else { 0 }
     };
     // `None` never occurs: each word that is tested lies within the bytes.
@@ -180,8 +180,8 @@ fn any_in_words<const LEAST: u8, const OR_NULL: bool>(bytes: &[u8]) -> bool {
     found & HIGH != 0
 }
 
-/// 16 to 64 bytes by vectors of 16, which cover all, and may overlap. The instructions are those
-/// that every processor of the architecture has.
+/// Tests 16 to 64 bytes by vectors of 16, which cover all bytes, and may overlap. The instructions
+/// are those that every processor of the architecture has.
 #[cfg(all(target_arch = "x86_64", not(miri)))]
 mod vectors {
     use core::arch::x86_64::*;
@@ -222,7 +222,7 @@ mod vectors {
     }
 }
 
-/// The tests by vectors on aarch64, which take 16 to 64 bytes too.
+/// Tests 16 to 64 bytes by vectors on aarch64 too.
 #[cfg(all(target_arch = "aarch64", target_endian = "little", not(miri)))]
 mod vectors {
     use core::arch::aarch64::*;

@@ -49,6 +49,7 @@ mod standard {
         }
     }
 
+    /// The character that these bytes encode, or U+FFFD if there are none.
     fn character(bytes: &[u8]) -> char {
         let digits = |bytes: &[u8], first: u8| {
             bytes[1..]
@@ -474,7 +475,8 @@ test_level!(v3, is_x86_feature_detected!("avx2"), crate::level::x86::v3::surface
 ))]
 test_level!(neon, true, crate::level::aarch64::neon::surface);
 
-/// A processor has the highest level that the build has and whose instructions it has.
+/// The level that is detected is the highest that the build has and whose instructions the
+/// processor has.
 #[cfg(all(target_arch = "x86_64", feature = "std", not(any(miri, cesu8_level = "plain"))))]
 #[test]
 fn level() {

@@ -1,5 +1,6 @@
 //! The cases of the program, tests/cli_cases.txt of the repository, as calls of the crate. A line
-//! has the words, the input, the status and the output, separated by `|`. Bytes are hexadecimal.
+//! has the words, the input, the status, the output and a line of standard error, which is not used
+//! here. `|` separates them, and bytes are hexadecimal.
 
 use std::borrow::Cow;
 

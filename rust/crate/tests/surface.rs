@@ -1,6 +1,7 @@
-//! What programs written for `simd_cesu8` 1.2.0 rely on: types, traits, borrowing, allocations.
-//! This package is a drop-in for that published crate, and its library has the same name. Also what
-//! it promises beyond that: the calls that 1.2.0 lacks, and how much is allocated.
+//! Tests what programs written for `simd_cesu8` 1.2.0 rely on: types, traits, borrowing,
+//! allocations. This package is a drop-in for that published crate, and its library has the same
+//! name. Also tests what it promises beyond that: the calls that 1.2.0 lacks, and how much is
+//! allocated.
 
 use std::alloc::{GlobalAlloc, Layout, System};
 use std::borrow::Cow;

@@ -12,7 +12,7 @@ use Rattle.cesu8_text.proofs.text.Shapes.{IsPair, utf8_of_pair}
 use Rattle.cesu8_bytes.proofs.lists.Classes.{continues_by_bits}
 
 -- Masking a word masks each of its bytes a, b, d, e, g and h. `more` has the last two, which the
--- mask clears.
+-- mask clears. `and_block n` masks the bits from bit n on and those below it separately.
 masked : (a b d e g h more : ℕ) → a < 0x100 → b < 0x100 → d < 0x100 → e < 0x100 → g < 0x100 → h < 0x100 →
     bit_and (word_of a b d e g h more) 0xC0F0FFC0F0FF
     ≡ a + bit_and b 0xF0 * 0x100 + bit_and d 0xC0 * 0x10000 + e * 0x1000000 + bit_and g 0xF0 * 0x100000000 + bit_and h 0xC0 * 0x10000000000
@@ -29,11 +29,12 @@ masked a b d e g h more a_byte b_byte d_byte e_byte g_byte h_byte =
       and_block 8 b 0xF0 a 0xFF (omega arith) (omega arith),
     ) (omega (arith, and_mask a 8, and_mask e 8, and_le_r more 0))
 
--- A byte is B0 to BF if its upper four bits are those of B0.
+-- A byte is B0 to BF if and only if its upper four bits are those of B0. `agree_below_at` computes
+-- that for all 256 bytes.
 low_surrogate_test : (x : ℕ) → x < 0x100 → eqb (bit_and x 0xF0) 0xB0 ≡ (leb 0xB0 x && ltb x 0xC0)
 low_surrogate_test x h = agree_below_at (λ x. eqb (bit_and x 0xF0) 0xB0) (λ x. leb 0xB0 x && ltb x 0xC0) 0x100 x refl h
 
--- A byte is A0 to AF if its upper four bits are those of A0.
+-- A byte is A0 to AF if and only if its upper four bits are those of A0.
 high_surrogate_test : (x : ℕ) → x < 0x100 → eqb (bit_and x 0xF0) 0xA0 ≡ (leb 0xA0 x && ltb x 0xB0)
 high_surrogate_test x h = agree_below_at (λ x. eqb (bit_and x 0xF0) 0xA0) (λ x. leb 0xA0 x && ltb x 0xB0) 0x100 x refl h
 
@@ -65,8 +66,9 @@ bytes_of_word : (p q r s : ℕ) → p < 0x100 → q < 0x100 → r < 0x100 → s 
 bytes_of_word p q r s p_byte q_byte r_byte s_byte = grind arith
 
 -- The bits of the UTF-8: some digits move down by ten bits, some up by four, and some down by
--- sixteen. The digits are w to z. The word is that of the pair after 0x100 was added, hence 0xA1.
--- The masks clear the bytes a and e, which are ED in a pair, and `more`, which follows it.
+-- sixteen. The digits are w to z (`IsPair`). The word is that of the pair after 0x100 was added,
+-- hence 0xA1. The masks clear the bytes a and e, which are ED in a pair, and `more`, which follows
+-- it.
 module _ (a w x e y z more : ℕ) (a_byte : a < 0x100) (w_low : w < 0x10) (x_low : x < 0x40)
     (e_byte : e < 0x100) (y_low : y < 0x10) (z_low : z < 0x40) where
   abbrev word : ℕ
@@ -103,7 +105,8 @@ module _ (a w x e y z more : ℕ) (a_byte : a < 0x100) (w_low : w < 0x10) (x_low
         and_block 16 (0xB0 + y) 0x0F low 0 (omega arith) (omega arith),
       ) (omega (arith, and_mask high 6, and_mask (0xB0 + y) 4, and_le_r low 0))
 
--- The computed word has the bytes of the character's UTF-8.
+-- The computed word has the bytes of the character's UTF-8. `flat` sorts the sum of the moved
+-- digits by the bytes in which they are.
 pub utf8_word_is : (c w x y z a e more word : ℕ) → IsPair c w x y z → a < 0x100 → e < 0x100 →
     word ≡ word_of a (0xA0 + w) (0x80 + x) e (0xB0 + y) (0x80 + z) more → to_le_bytes w32 (utf8_word word) ≡ utf8_of c
 utf8_word_is c w x y z a e more word digits a_byte e_byte word_is =

@@ -43,11 +43,12 @@ pub least_marks : (least n : ℕ) (bytes : List ℕ) → length bytes ≡ n →
     map (to_z w8) (zip2 (λ a b. ones (leb a b)) (replicate n least) bytes) ≡ marks_of (leb least) bytes
 least_marks least n bytes long = marked (leb least) bytes _ (zip2_splat_left (λ a b. ones (leb a b)) least n bytes long)
 
--- A byte is F0 to F7 (hexadecimal) exactly if its upper five bits are those of F0.
+-- A byte is F0 to F7 (hexadecimal) if and only if its upper five bits are those of F0.
+-- `agree_below_at` computes that for all 256 bytes.
 pub four_by_bits : (b : ℕ) → b < 0x100 → eqb (bit_and b 0xF8) 0xF0 ≡ is_four b
 four_by_bits b h = agree_below_at (λ b. eqb (bit_and b 0xF8) 0xF0) is_four 0x100 b refl h
 
--- A byte is a continuation byte exactly if its upper two bits are those of 80 (hexadecimal).
+-- A byte is a continuation byte if and only if its upper two bits are those of 80 (hexadecimal).
 pub continues_by_bits : (b : ℕ) → b < 0x100 → eqb (bit_and b 0xC0) 0x80 ≡ (leb 0x80 b && ltb b 0xC0)
 continues_by_bits b h = agree_below_at (λ b. eqb (bit_and b 0xC0) 0x80) (λ b. leb 0x80 b && ltb b 0xC0) 0x100 b refl h
 
@@ -79,7 +80,7 @@ either_marks p q bytes ps qs of_p of_q =
     ∙ map_agree _ _ bytes (Each1-all (λ b. bit_or (of_z w8 (lane (p b))) (of_z w8 (lane (q b))) ≡ ones (p b || q b)) (λ b. either_ones (p b) (q b)) bytes)
     )
 
--- Three lanes, each all ones or 0, joined as in `range_marks`.
+-- Joining three lanes by bits, as in `range_marks`, joins their tests.
 range_ones : (s t u : Bool) → bit_or (ones s) (bit_and (ones t) (ones u)) ≡ ones (s || (t && u))
 range_ones s t u = grind arith
 

@@ -35,7 +35,8 @@ unchanged_after_store zero (suc m) (x ∷ out) (y ∷ lanes) le = unchanged_afte
 unchanged_after_store (suc at) zero (x ∷ out) lanes le = absurd (omega arith)
 unchanged_after_store (suc at) (suc m) (x ∷ out) lanes le = unchanged_after_store at m out lanes (omega arith)
 
--- Vectors stored at both ends of some bytes, which together cover them, store all of them.
+-- Vectors stored at both ends of some bytes, which together cover them, store all of them: the
+-- first those before `at`, and the second those from there on.
 pub ends_stored : (n : ℕ) (bytes out : List ℕ) → n ≤ length bytes → length bytes ≤ 2 * n → length bytes ≤ length out →
     put_chunk (length bytes - n) (put_chunk 0 out (take n bytes)) (drop (length bytes - n) bytes) ≡ bytes ++ drop (length bytes) out
 ends_stored n bytes out many few room =

@@ -45,7 +45,7 @@ marked_cons d q r b bytes e l =
     rw (e, and_block 8 q (inverted bytes) r (0xFF - b) l (omega arith))
     (and_block 8 (bit_and q (inverted bytes)) (each 0x80 bytes) (bit_and r (0xFF - b)) 0x80 (and_lt 8 r (0xFF - b) l (omega arith)) (omega arith))
 
--- A byte other than 0, less 1, gains no high bit.
+-- A byte other than 0, less 1, gains no high bit. `agree_below_at` computes that for all 256 bytes.
 unmarked_byte : (b : ℕ) → b < 0x100 → (b ≡ 0 → ⊥) → bit_and (bit_and (b - 1) (0xFF - b)) 0x80 ≡ 0
 unmarked_byte b l n =
     let all = agree_below_at (λ b. eqb b 0 || eqb (bit_and (bit_and (b - 1) (0xFF - b)) 0x80) 0) (λ _. true) 0x100 b refl l in
@@ -98,7 +98,7 @@ inverse (b ∷ bytes) h = omega (arith, inverse bytes h.1)
 
 -- Some byte of a word is 0 if and only if its marks are not 0. The function `zero_marks` of
 -- src/words.rt computes them by this formula: adding FEFEFEFEFEFEFEFF (hexadecimal) modulo 2^64
--- subtracts 0101010101010101.
+-- subtracts 0101010101010101. The subtraction borrows if the sum is below 2^64.
 pub zero_test : (w : ℕ) → w < 2 ^ 64 →
     (bit_and (bit_and ((w + 0xFEFEFEFEFEFEFEFF) % 2 ^ 64) (0xFFFFFFFFFFFFFFFF - w)) 0x8080808080808080 ≡ 0 → ⊥)
     ↔ Any (λ b. b ≡ 0) (to_le_bytes w64 w)

@@ -40,7 +40,8 @@ sum_by_next f xs a n = grind (arith, drop-drop, sum_by-take-drop)
 
 -- ---- bits of marks
 
--- The bits of a mask above the first n are as many as the later elements that pass.
+-- The number of bits that a mask has set, without its first n, is the number of later elements that
+-- pass.
 pub bits_after : (p : ℕ → Bool) (xs : List ℕ) (n bits : ℕ) → n ≤ length xs → bits ≡ mask_l (map p xs) → count_ones (bits / 2 ^ n) ≡ count_by p (drop n xs)
 bits_after p xs n bits le is = grind (arith, drop-map, length-map, mask_rest, ones-mask_l)
 
@@ -118,7 +119,7 @@ module _ (n : ℕ) (few : n ≤ 16) (lanes : List ℕ) (long : length lanes ≡ 
       (sum_dots n lanes (replicate (4 * n) 1) long (length-replicate (4 * n) 1)).0
       ∙ subst (λ k. sum_l (products lanes (replicate k 1)) ≡ sum_l lanes) long (sum_by-ones lanes)
 
-  -- No partial sum of the dot products overflows 32 bits.
+  -- No partial sum of the dot products overflows 32 bits: all lanes together are at most 255 * 64.
   pub dots_sum_fits : Steps (λ s x. Fits w32 (s + x)) (λ s x. s + x) 0 (dots lanes (replicate (4 * n) 1))
   dots_sum_fits =
       let low = sum_bound 255 lanes (bytes_below lanes fits) in

@@ -22,14 +22,14 @@ pub loaded : (window : List ℕ) (at d n : ℕ) → at + d + n ≤ length window
 loaded window at d n room =
     sym (pick_l-range_with_len 0 window (at + d) n room) ∙ shifted (λ i. get_or window i 0) at d n
 
--- The mask of a load, lane by lane.
+-- The mask of such a load, lane by lane: each lane tests the byte that `loaded` names.
 pub marks_at : (t : ℕ → Bool) (window : List ℕ) (at d : ℕ) (lanes : List ℕ) → at + d + 32 ≤ length window →
     lanes ≡ map (λ b. mask (t b)) (chunk (at + d) 32 window) →
     lanes ≡ map (λ i. mask (t (get_or window (i + d) 0))) (range_with_len at 32)
 marks_at t window at d lanes room is =
     is ∙ ap (map (λ b. mask (t b))) (loaded window at d 32 room) ∙ map-map (λ b. mask (t b)) (λ i. get_or window (i + d) 0) (range_with_len at 32)
 
--- The mask of a load at the offset itself, lane by lane.
+-- `marks_at` for a load that begins at the offset itself.
 pub marks_here : (t : ℕ → Bool) (window : List ℕ) (at : ℕ) (lanes : List ℕ) → at + 32 ≤ length window →
     lanes ≡ map (λ b. mask (t b)) (chunk at 32 window) →
     lanes ≡ map (λ i. mask (t (get_or window i 0))) (range_with_len at 32)

@@ -62,7 +62,8 @@ kept_written g (s ∷ dropped) (d ∷ ill_formed) i e r =
     let later = λ (some : 0 < mask_l ill_formed). r (omega arith) in
     rw (lowest_dropped.0, lowest_dropped.1, replaced.0, replaced.1) (kept_one g i s d _ _ here (kept_written g dropped ill_formed (i + 1) (omega arith) later))
 
--- The lanes that two sets keep are what is written for the tests whose masks the sets are.
+-- If two sets of lanes are the masks of two lists of tests, the lanes that packing keeps for these
+-- sets are what is written for the tests.
 pub lanes_written : (n dropped_set ill_formed_set : ℕ) (lanes : List ℕ) (dropped ill_formed : List Bool) → length dropped ≡ n → length ill_formed ≡ n →
     dropped_set ≡ mask_l dropped → ill_formed_set ≡ mask_l ill_formed → lanes_at lanes (range_with_len 0 n) ≡ chunk 0 n lanes →
     HasReplacement (λ j. get_or lanes (j % 0x10) 0) ill_formed_set →
@@ -177,7 +178,7 @@ module _ (tests : List Bool) (bytes : List ℕ) (t : 32 ≤ length tests) (b : l
   abbrev eight : ℕ → List ℕ
   eight a = part (take 32 tests) none bytes a 8
 
-  -- The lanes of a vector that a set keeps.
+  -- The lanes of a vector that are kept if those of a set are dropped.
   abbrev kept_by : List ℕ → ℕ → List ℕ
   kept_by lanes set = lanes_at lanes (kept_of_eight set)
 

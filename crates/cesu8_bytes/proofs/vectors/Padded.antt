@@ -12,7 +12,7 @@ use Rattle.cesu8_bytes.specs.declared.lanes.padded.TheConstants.{INDICES}
 abbrev pub indices_from : ℕ → List ℕ
 indices_from shift = chunk 0 16 (chunk shift (32 - shift) INDICES)
 
--- The index in lane m.
+-- Index m of `indices_from` is index `shift + m` of `INDICES`.
 index_at : (shift m : ℕ) → shift ≤ 16 → m < 16 → get_or (indices_from shift) m 0 ≡ get_or INDICES (shift + m) 0
 index_at shift m low l =
     let here : 0 + m ≡ m = omega arith in

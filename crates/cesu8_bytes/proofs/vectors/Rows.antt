@@ -1,5 +1,6 @@
--- Eight lanes of a vector as a row: their bits in a mask, how they are shuffled, and how they are
--- stored. `writing/packing.rt` packs bytes by rows, and so does `store_block` of `cesu8_encode`.
+-- Eight lanes of a vector, which one row of a table packs: their bits in a mask, how they are
+-- shuffled, and how they are stored. `writing/packing.rt` packs bytes by eights, and so does
+-- `store_block` of `cesu8_encode`.
 use Rattle.std.proofs.lemmas.Bool.Decides.{nat_tests}
 use Rattle.std.proofs.lemmas.Grind.{common_steps}
 use Rattle.std.proofs.Common.{◌≡◌, ℕ, zero, suc, ◌+◌, ◌*◌, ◌/◌, ◌%◌, ◌^◌, ◌<◌, ◌≤◌, Bool, cond, List, [], ◌∷◌, ◌++◌, map, length, take, drop, get_or, eqb, sym, ap, ◌∙◌, subst, arith, w8, length-append, bit_and}
@@ -56,7 +57,7 @@ mask_rest n ts le =
     ∙ add-mul-div_left (mask_l (take n ts)) (mask_l (drop n ts)) (one-le-pow n 2 (omega arith))
     ∙ omega arith
 
--- The tests of the row from a on are eight bits of the mask.
+-- The tests of the eight lanes from a on are eight bits of the mask.
 pub row_mask : (a : ℕ) (ts : List Bool) (d : ℕ) → a + 8 ≤ length ts → d ≡ mask_l ts →
     bit_and (d / 2 ^ a) 0xFF ≡ mask_l (chunk a 8 ts)
 row_mask a ts d le is =
@@ -64,7 +65,7 @@ row_mask a ts d le is =
     ∙ ap (λ m. m % 0x100) (ap (λ m. m / 2 ^ a) is ∙ mask_rest a ts (omega arith))
     ∙ mask_prefix 8 (drop a ts) (omega (arith, length-drop a ts))
 
--- The tests of the first row are the lowest eight bits of the mask.
+-- The tests of the first eight lanes are the lowest eight bits of the mask.
 pub first_mask : (ts : List Bool) (d : ℕ) → 8 ≤ length ts → d ≡ mask_l ts → bit_and d 0xFF ≡ mask_l (chunk 0 8 ts)
 first_mask ts d le is = and_mask d 8 ∙ ap (λ m. m % 0x100) is ∙ mask_prefix 8 ts le
 

@@ -77,11 +77,13 @@ pub struct NoByte;
 pub struct Equal<const BYTE: u8>;
 /// The byte 00.
 pub type Null = Equal<0>;
-/// F0 to F7 (hexadecimal), tested by the upper five bits. The kernels use it, for any bytes.
+/// F0 to F7 (hexadecimal), tested by the upper five bits. The kernels, whose input may be any
+/// bytes, need exactly this class.
 pub struct FourByteLead;
 /// `BYTE` and all greater bytes.
 pub struct AtLeast<const BYTE: u8>;
-/// F0 (hexadecimal) or more: in UTF-8 the four-byte leads. `groups` tests for these by maxima.
+/// F0 (hexadecimal) or more: in UTF-8 the four-byte leads, found by one comparison. `groups` tests
+/// four vectors for them by maxima.
 pub type AtLeastF0 = AtLeast<0xF0>;
 /// 80 (hexadecimal) or more: not ASCII.
 pub type NonAscii = AtLeast<0x80>;

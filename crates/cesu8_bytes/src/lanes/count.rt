@@ -2,9 +2,9 @@
 //! one that leads four bytes. The sum is the growth of an encoding, or the number of code units.
 //!
 //! In blocks of 1,024 bytes, each lane of a vector counts its own bytes. These are at most 16, so
-//! no lane overflows. Then the lanes are summed. In the rest, the bits of a mask are counted for
-//! each vector. The last vector overlaps the one before it, and the bits that were counted already
-//! are shifted out.
+//! no lane overflows. Then the lanes are summed. In the rest, the bits of two masks are counted for
+//! each vector: of the class, and of four-byte leads. The last vector may overlap the one before
+//! it, and the bits that were counted already are shifted out.
 
 ghost use Rattle.std.specs.Prelude.{◌≡◌, ℕ, ◌<◌, ◌≤◌, ◌+◌, ◌-◌, ◌*◌, length, drop, sum_by};
 ghost use Rattle.std.specs.Simd.Lanes.{sum_l};
@@ -80,7 +80,8 @@ fn block_weight<C: CountsOne>(block: &[u8]) -> usize
     lane_sum(ones) + 2 * lane_sum(fours)
 }
 
-/// Returns the sum of the lanes, in wider lanes by fours, since 64 times 16 overflows a byte.
+/// Returns the sum of the lanes. It adds each four in a wider lane, since 64 times 16 overflows a
+/// byte.
 #[inline(always)]
 fn lane_sum(lanes: u8x64) -> usize
     ensures { result ≡ sum_l lanes }

@@ -1,7 +1,7 @@
 //! Short slices as a block, padded with zeros.
 //!
-//! The slice is combined in registers by shuffles. Copying it to a buffer and loading the block
-//! from there would wait for store-to-load forwarding.
+//! Shuffles combine the parts of the slice in registers. Copying it to a buffer and loading the
+//! block from there would wait for store-to-load forwarding.
 
 ghost use Rattle.std.specs.Prelude.{◌≡◌, ◌<◌, ◌≤◌, ◌-◌, ◌++◌, length, replicate};
 ghost use Rattle.cesu8_bytes.specs.Padded.{ends_of};

@@ -47,7 +47,8 @@ pub fn any_in_long<C: InGroups>(bytes: &[u8]) -> bool
 pub fn any_in_bytes_or_call<C: InAllVectors + InGroups>(bytes: &[u8]) -> bool
     ensures { IsTrue result ↔ AnyIn C.class bytes.now }
 {
-    // The lengths are tested in the order of `copy_short`, so a copy that follows shares the tests.
+    // After its test for long slices, `copy_short` tests lengths in this order too, so a copy that
+    // follows shares the tests.
     if are_short(bytes) {
         return any_in_bytes::<C>(bytes);
     }

@@ -1,4 +1,5 @@
-//! Short slices, for which a loop at each vector width would cost more than the tests do.
+//! Searches and copies short slices. A loop over vectors of each width would cost more than the
+//! search or the copy itself.
 //!
 //! Two vectors of one width, one at the start and one at the end, cover a slice whose length is
 //! between that width and twice that width. If it is shorter than twice the width, they overlap.

@@ -1,6 +1,7 @@
-//! Searches for a byte of a class by vectors of each width, for `implementation::simd`. Its kernels
-//! are as the Rust crate describes them, and are tested with another fallback. The codec does not
-//! use them, since the search of `lanes` is faster: it ends with one vector that may overlap.
+//! Searches for a byte of a class by vectors of each width, for the kernels of
+//! `implementation::simd`, which are as the Rust crate describes them. `crates/bytes_tests` passes
+//! another `fallback`, to see when it is called. The codec does not use these kernels: `search.rt`
+//! is faster, since it ends with one vector that may overlap.
 
 ghost use Rattle.std.specs.Prelude.{◌≡◌, ◌≤◌, ◌<◌, ◌↔◌, IsTrue, IfSome, IfNone, length};
 ghost use Rattle.cesu8_bytes.specs.Kernels.{AnyIn, MayTest, Finds};

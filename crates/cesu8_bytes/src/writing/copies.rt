@@ -38,7 +38,8 @@ pub fn append(bytes: &[u8], out: &mut Vec<u8>)
 }
 
 /// Appends the first `len` bytes of at least 64, to a buffer with enough capacity for all of them.
-/// Up to 64 are copied as one vector, then truncated: a variable length would be mispredicted.
+/// If `len` is at most 64, it copies 64 bytes and truncates: a variable length would be
+/// mispredicted.
 #[inline(always)]
 pub fn append_prefix(bytes: &[u8], len: usize, out: &mut Vec<u8>)
     requires lanes { LANES ≤ length bytes.now }

@@ -27,6 +27,7 @@ pub fn store_kept(bytes: u8x32, dropped: usize, out: &mut [u8], at: usize) -> us
         → WritesAt (written (take BLOCK tests) (replicate BLOCK false) bytes)
         at out.old out.new result }
 {
+    // `first` begins with the first eight bytes, and `third` with the third eight.
     let first = bytes.extract::<0, HALF>();
     let third = bytes.extract::<HALF, HALF>();
     let at = store_eight(first, dropped & 0xFF, out, at);

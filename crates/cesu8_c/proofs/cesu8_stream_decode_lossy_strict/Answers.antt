@@ -1,5 +1,6 @@
 -- The contract of `cesu8_stream::decode_lossy_strict`, with a status in place of the state.
--- `INVALID` is the status for `Malformed`, a state that this call never returns.
+-- `INVALID` is the status for `Malformed`, a state that this call never returns. It is from 1 to 5,
+-- as the lemma requires: the other states have the statuses 0, 6 and 7.
 use Rattle.std.proofs.Common.{arith}
 use Rattle.simd_cesu8.specs.Encoding.{Cesu8, encoding}
 use Rattle.simd_cesu8.specs.Reading.{reading}

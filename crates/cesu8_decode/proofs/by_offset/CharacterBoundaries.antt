@@ -118,8 +118,7 @@ bytes_later : (f : Flavor) (a b d e g h : ℕ) → let w = first_width_by f a b 
     (2 ≤ w → 0x80 ≤ b) × (3 ≤ w → 0x80 ≤ d) × (4 ≤ w → 0x80 ≤ e) × (4 ≤ w → 0x80 ≤ g) × (4 ≤ w → 0x80 ≤ h)
 bytes_later f a b d e g h = grind (arith, nat_tests, width_tells, pair_later, low_second, three_later)
 
--- Of the six bytes from a character's first on: if byte s is zero, the character has at most s
--- bytes.
+-- If the s-th byte after the first byte of a character is zero, the character has at most s bytes.
 zero_ends : (f : Flavor) (a b d e g h s : ℕ) → 0 < s → (s ≡ 1 → b ≡ 0) → (s ≡ 2 → d ≡ 0) → (s ≡ 3 → e ≡ 0) → (s ≡ 4 → g ≡ 0) → (s ≡ 5 → h ≡ 0) →
     first_width_by f a b d e g h ≤ s
 zero_ends f a b d e g h s some h1 h2 h3 h4 h5 = grind (arith, nat_tests, bytes_later, width_tells)

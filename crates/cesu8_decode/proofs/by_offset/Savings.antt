@@ -48,7 +48,7 @@ lossy_length_by_savings f bytes =
     omega (arith, same, character_saves f c rest scalar (shape c scalar), length-append (utf8_of c) (utf8 text), length-append (encoding f (c ∷ [])) rest))
     (λ b rest text none same. omega (arith, same, replaced_saves f b rest none, length_utf8_replaced text)) bytes
 
--- The length is returned if it fits `usize`.
+-- A conversion to `usize` gives the length if it fits. If it fails, the length does not fit.
 pub length_given : {E : Type 0} (r : Result ℕ E) (n len : ℕ) → OkIff r (n < 2 ^ 64) n → n ≡ len →
     IfSome (result_ok r) (λ m. m ≡ len) × IfNone (result_ok r) (2 ^ 64 - 1 < len)
 length_given (Ok m) n len given same = (given.1 ∙ same, tt)

@@ -38,7 +38,7 @@ pub record IsWide (f : Flavor) (bytes : List ℕ) : Type 0 where
   pub begins : BeginsWith f bytes character (drop (first_width f bytes) bytes)
   pub wide : first_width f bytes ≡ width f character
 
--- By what `standing` finds: if the width of that is not 0, a character begins the bytes.
+-- If the width of what `standing` finds is not 0, it found a character, which begins the bytes.
 wide_by : (f : Flavor) (bytes : List ℕ) (o : Option ℕ) → standing f bytes ≡ o → 0 < width_of f o → IsWide f bytes
 wide_by f bytes None found some = absurd (omega arith)
 wide_by f bytes (Some c) found some = record { character = c; begins = rw found (standing_begins f bytes c found); wide = ap (width_of f) found }

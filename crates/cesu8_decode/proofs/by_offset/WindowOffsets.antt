@@ -111,6 +111,6 @@ width_in f window bytes i n follows inside =
 pub follows_zeros : (bytes : List ℕ) → Follows (0 ∷ 0 ∷ 0 ∷ 0 ∷ 0 ∷ bytes) bytes 5
 follows_zeros bytes k = grind arith
 
--- The width at an offset is in the window five bytes later.
+-- The width at offset i of the bytes is the width at offset i + 5 of their window.
 pub width_there : (f : Flavor) (bytes : List ℕ) (i : ℕ) → width_at f (0 ∷ 0 ∷ 0 ∷ 0 ∷ 0 ∷ bytes) (i + 5) ≡ width_at f bytes i
 width_there f bytes i = grind (arith, width_agrees, follows_zeros)

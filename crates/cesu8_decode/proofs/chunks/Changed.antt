@@ -1,5 +1,6 @@
--- Characters that need conversion: how they are decoded, and how a prefix of the bytes shows them.
--- The prefix has the first eight bytes, and zeros for those that are missing (`IsPrefixOf`).
+-- Characters that need conversion decode to the UTF-8 that the code computes for them. A prefix
+-- shows whether one begins the bytes: the first eight bytes, and zeros for those that are missing
+-- (`IsPrefixOf`). `append_to_next` of src/destinations/strict_append.rt tests such a prefix.
 use Rattle.std.proofs.lemmas.Bool.Decides.{nat_tests}
 use Rattle.std.proofs.Common.{◌≡◌, ℕ, ◌↔◌, ◌≤◌, List, [], ◌∷◌, ◌++◌, sym, ap, ◌∙◌, subst, true, arith, length, drop, get_or, append-nil}
 use Rattle.cesu8_text.specs.Text.{utf8_of}

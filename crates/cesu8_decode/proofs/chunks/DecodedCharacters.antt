@@ -1,6 +1,8 @@
 -- What is written for whole characters at a boundary: the UTF-8 of their text. `window_of bytes` is
 -- the bytes with five zeros before them. What `decoded`, `is_ill_formed_at` and `is_boundary_at`
 -- say of it at offset i is about byte i of the bytes. What `width_at` says is about byte i - 5.
+-- `decoder/Passes` cites this for `write_pairs` and `copy_unchanged` of src/pass/windows.rt, which
+-- write characters without a window.
 use Rattle.std.proofs.Common.{◌≡◌, ℕ, ◌+◌, ◌-◌, ◌<◌, ◌≤◌, true, false, List, [], ◌∷◌, ◌++◌, ⊎_elim, sym, ap, ◌∙◌, subst, arith, append-nil, append_assoc, length, take, drop, length-append, length-drop, take-append-drop}
 use Rattle.std.proofs.Math.Seq.{drop-append_seam}
 use Rattle.std.proofs.lemmas.Bool.{cases_Bool, cases_lt}
@@ -68,7 +70,8 @@ module _ (f : Flavor) (bytes : List ℕ) (at : ℕ) (within : at ≤ length byte
         ends = omega (arith, covered.ends, low);
       }
 
-  -- No character crosses the end of these characters.
+  -- No character crosses the end of these characters. One that begins before `at` ends there or
+  -- earlier, and one that begins after it ends with the text or earlier (`from_here`).
   pub boundary_after_text : is_boundary_at f (window_of bytes) (at + n) ≡ true
   boundary_after_text = boundary_where f (window_of bytes) (at + n) ends
     where

@@ -1,5 +1,5 @@
 -- What is written for a window of bytes is a chunk of their text, or an ill-formed byte in the
--- window is a fault of the bytes.
+-- window is a fault of the bytes. `decoder/WrittenWindows` cites this.
 use Rattle.std.proofs.Common.{◌≡◌, ℕ, ◌+◌, ◌<◌, ◌≤◌, true, false, List, ◌∷◌, sym, ◌∙◌, subst, arith, length, take, drop}
 use Rattle.std.specs.Prelude.{slice_index}
 use Rattle.std.proofs.lemmas.Bool.Decides.{nat_tests}

@@ -1,5 +1,6 @@
--- The prefix of whole characters ends at the first event: a byte that is ill-formed, or at which a
--- character that needs conversion begins.
+-- The valid prefix ends at the first ill-formed byte. The unchanged prefix ends at the first byte
+-- that is ill-formed, or at which a character that needs conversion begins. `MaskPrefixes` finds
+-- these bytes by the masks of a window.
 use Rattle.std.proofs.Common.{◌≡◌, ℕ, ◌+◌, ◌-◌, ◌<◌, ◌≤◌, ◌⊎◌, inl, inr, ⊎_elim, true, false, true≢false, ◌||◌, eqb, List, [], ◌∷◌, ◌++◌, refl, sym, ap, ◌∙◌, subst, arith, append_assoc, length, take, drop, get_or, get_or-drop, add-zero, length-append, length-drop, take-append-drop}
 use Rattle.std.proofs.Math.Seq.{take-add}
 use Rattle.std.proofs.lemmas.Bool.{cases_lt}

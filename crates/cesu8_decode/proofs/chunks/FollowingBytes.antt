@@ -33,13 +33,15 @@ pub record IsSecond (s : CharacterSet) (f : Flavor) (a b : ℕ) : Type 0 where
   pub no_overlong : (eqb a 0xE0 && ltb b 0xA0) ≡ false
   pub no_low : (eqb a 0xED && leb (first_low s) b) ≡ false
 
--- The class as the result of the tests in order.
+-- The class as the result of the tests of `pair_class` in order. `above` says that the first byte
+-- is F0 or more, `led` that it is C0 or more, and `on` that the second is a continuation byte.
 abbrev class_by : (nul above on led ascii no_lead c0 long c1 overlong low : Bool) → ℕ
 class_by nul above on led ascii no_lead c0 long c1 overlong low =
     cond nul 0xFF (cond above 0x40 (cond (not on) (cond led 0x01 0) (cond ascii 0x02 (cond no_lead 0x80
     (cond c0 (cond long 0 0x10) (cond c1 0x08 (cond overlong 0x04 (cond low 0x20 0))))))))
 
--- What the classes 20 and 00 (hexadecimal) say of the tests, here and then of two bytes.
+-- What the classes 20 and 00 (hexadecimal) say of the results of these tests. `tests` says it of
+-- the tests of two bytes.
 by_tests : (nul above on led ascii no_lead c0 long c1 overlong low : Bool) →
     let n = class_by nul above on led ascii no_lead c0 long c1 overlong low in
     (n ≡ 0x20 → (on ≡ true) × (low ≡ true))
@@ -53,7 +55,7 @@ tests : (s : CharacterSet) (f : Flavor) (a b : ℕ) → (pair_class s f a b ≡ 
 unfolding pair_class
 tests s f a b = grind (arith, nat_tests, by_tests)
 
--- A byte of class 0 after a lead byte is a second byte, and after any other byte it begins a
+-- A byte of class 0 after a lead byte is a second byte, and after any other byte it may begin a
 -- character.
 second : (s : CharacterSet) (f : Flavor) (a b : ℕ) → 0xC0 ≤ a → pair_class s f a b ≡ 0 → IsSecond s f a b
 second s f a b leads is = let found = (tests s f a b).1 is (le-leb 0xC0 a leads) (le-ltb a 0xC0 leads) in grind (arith, nat_tests)
@@ -81,7 +83,8 @@ high_bytes s a b high = grind (arith, nat_tests)
 pub low_if_meant : (s : CharacterSet) → has_changed s ≡ true → first_low s ≡ 0xB0
 low_if_meant s meant = grind arith
 
--- The byte after a lead byte of three bytes and its second byte is a continuation byte.
+-- If byte j can follow the bytes before it, and byte g, two before it, leads three bytes, byte j is
+-- a continuation byte.
 third_byte : (s : CharacterSet) (f : Flavor) (d e g h j : ℕ) → d < 0xE0 → 0xE0 ≤ g → follows s f d e g h j ≡ true → IsContinuation j
 third_byte s f d e g h j before lead fits = continuation j (if_third s f h j (grind (arith, nat_tests)))
 

@@ -133,7 +133,9 @@ module _ (f : Flavor) (bytes buf : List ℕ) (n : ℕ) (prefix : IsLongestPrefix
   read : IsChunk f Strict bytes (drop n bytes) (take n bytes)
   read = unchanged_prefix_chunk f bytes n prefix Strict
 
-  -- If the prefix is copied before the text of the rest, the text of all bytes is written.
+  -- If the prefix is copied before the text of the rest, the text of all bytes is written. The
+  -- first `omega` proves that its length fits `usize`, the second that it fits the slice, and the
+  -- third that it has n + len bytes.
   pub prefix_put : (start len : ℕ) (new out : List ℕ) → n ≤ length buf → start ≡ n →
       PutsReading f Strict (drop n bytes) (Ok len) (drop start buf) new → out ≡ take n bytes ++ new → PutsReading f Strict bytes (Ok (n + len)) buf out
   prefix_put start len new out room start_is puts is =
@@ -164,7 +166,8 @@ module _ (f : Flavor) (bytes buf : List ℕ) (n : ℕ) (prefix : IsLongestPrefix
       )
 
   -- If the slice is too short for the rest, the length of the prefix is added to the length that is
-  -- needed.
+  -- needed. The second `omega` proves that this is the length of all of the text, and the last two
+  -- that the slice is shorter.
   pub prefix_lacks_room : (start : ℕ) (new out : List ℕ) (no_room all : NoRoom) → (n ≤ length buf → start ≡ n) → n < length bytes →
       PutsReading f Strict (drop n bytes) (Err (write_error.NoRoom no_room)) (drop start buf) new → all.needed ≡ n + no_room.needed → out ≡ buf →
       PutsReading f Strict bytes (Err (write_error.NoRoom all)) buf out

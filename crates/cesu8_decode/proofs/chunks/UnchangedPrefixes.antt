@@ -1,4 +1,6 @@
--- The unchanged prefix: UTF-8 in which nothing needs conversion, and what comes after it.
+-- The unchanged prefix is UTF-8 in which nothing needs conversion. It is all of the bytes exactly
+-- if they are such UTF-8. Otherwise a character that needs conversion follows it, or no character
+-- does.
 use Rattle.std.proofs.Common.{◌≡◌, ℕ, ◌<◌, ◌↔◌, List, [], ◌∷◌, ◌++◌, refl, sym, ap, ◌∙◌, subst, arith, add-zero, length, get_or, take, drop, length-drop}
 use Rattle.std.specs.Str.{chars, IsUtf8}
 use Rattle.std.proofs.lemmas.Bool.Decides.{nat_tests}

@@ -47,7 +47,7 @@ pub at_most_four : (c : ℕ) → length (utf8_of c) ≤ 4
 unfolding utf8_of
 at_most_four c = grind (arith, nat_tests)
 
--- Four continuation bytes in a row are not UTF-8.
+-- Four continuation bytes in a row begin at offset i. No UTF-8 has them (`no_four`).
 abbrev FourContinue : List ℕ → ℕ → Type 0
 FourContinue bytes i = (k : ℕ) → i ≤ k → k ≤ i + 3 → IsContinuation (get_or bytes k 0)
 
@@ -65,7 +65,7 @@ no_four (c ∷ text) is_text i four =
     (cases_lt i n)
 
 -- In UTF-8, the offset that is reached by going back over at most three continuation bytes is a
--- character boundary.
+-- character boundary. After three of them too, since no four are in a row.
 pub start_is_boundary : (bytes : List ℕ) (at back : ℕ) → at < length bytes → 3 ≤ at → back ≤ 3 →
     ((k : ℕ) → k < back → IsContinuation (get_or bytes (at - k) 0)) → (¬ (IsContinuation (get_or bytes (at - back) 0))) ⊎ (back ≡ 3) →
     IsUtf8 bytes → IsCharBoundary bytes (at - back)

@@ -1,6 +1,6 @@
--- Which offsets are covered by characters of two bytes or more that begin at one of n offsets, from
--- `at` on. `window_of_lanes` (`lanes/windows.rt`) computes a mask of them from the masks of the
--- characters' starts.
+-- `window_of_lanes` (`lanes/windows.rt`) computes a mask of covered offsets from the masks of the
+-- characters' starts. This module proves that the mask marks exactly the offsets that are covered
+-- by a character of two bytes or more that begins at one of n offsets, from `at` on.
 use Rattle.std.proofs.Common.{◌≡◌, ℕ, zero, suc, ◌+◌, ◌-◌, ◌*◌, ◌%◌, ◌^◌, ◌<◌, ◌≤◌, ◌⊎◌, ⊎_elim, Bool, cond, true, false, ◌&&◌, ◌||◌, eqb, leb, ltb, List, get_or, bit_or, refl, sym, ap, ◌∙◌, arith}
 use Rattle.std.proofs.lemmas.Bool.{cases_lt, or_cases, and_parts, and_from, lt-ltb, le-leb, ltb-true, leb-true, or_left, or_right, eq-eqb, eqb-true}
 use Rattle.std.proofs.lemmas.Bool.Decides.{nat_tests}
@@ -22,8 +22,8 @@ pub record Forms (w : ℕ) (one null two three pair : Bool) : Type 0 where
   is_three : three ≡ true → w ≡ 3
   pub is_pair : pair ≡ true → w ≡ 6
 
--- The tests in the order in which `first_width_by` makes them. One that holds gives the width: no
--- earlier one that gives another width holds too.
+-- `first_width_by` makes the tests in this order. A test that passes gives the width, since no
+-- earlier test that gives another width passes too.
 chain : (one null two three six : Bool) →
     (null ≡ true → one ≡ false) → (two ≡ true → (one ≡ false)) → (three ≡ true → (one ≡ false) × (null ≡ false) × (two ≡ false)) →
     let w : ℕ = cond one 1 (cond null 2 (cond two 2 (cond three 3 (cond six 6 0)))) in

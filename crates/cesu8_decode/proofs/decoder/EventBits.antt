@@ -24,6 +24,7 @@ pub record IsLowest (n k : ℕ) : Type 0 where
   pub below : (i : ℕ) → i < k → bit_at n i ≡ 0
 
 module _ (n k : ℕ) (lowest : IsLowest n k) where
+  -- The bits of n above bit k. Those of n - 1 are the same (`shape`, `less`).
   above : ℕ
   above = n / 2 ^ (1 + k)
 
@@ -95,14 +96,16 @@ module _ (changing ill : ℕ) (fits : ill < 2 ^ 64) where
   pub none_changing : (i : ℕ) → bit_at (all_events changing ill) i ≡ 0 → bit_at changing i ≡ 0
   none_changing i none = omega (arith, none, event_bit i)
 
-  -- An ill-formed byte is an event if it is the first byte, or the byte before it is not ill-formed.
+  -- An event is at an ill-formed byte that is the first byte, or that follows a byte that is not
+  -- ill-formed.
   pub first_begins : bit_at ill 0 ≡ 1 → bit_at (all_events changing ill) 0 ≡ 1
   first_begins set = omega (arith, set, event_bit 0, shifted_first ill, bit_at-lt changing 0)
 
   pub run_begins : (i j : ℕ) → i ≡ j + 1 → bit_at ill j ≡ 0 → bit_at ill i ≡ 1 → bit_at (all_events changing ill) i ≡ 1
   run_begins i j there fine set = omega (arith, fine, set, event_bit i, shifted_next ill i j (ill_inside i set) there, bit_at-lt changing i)
 
-  -- No event is at a byte that is in neither mask, or that follows an ill-formed byte.
+  -- No event is at a byte that is not in `changing`, if it is not ill-formed or follows an
+  -- ill-formed byte.
   pub none_there : (i j : ℕ) → i ≡ j + 1 → bit_at changing i ≡ 0 → (bit_at ill i ≡ 0) ⊎ (bit_at ill j ≡ 1) → bit_at (all_events changing ill) i ≡ 0
   none_there i j there none either =
       ⊎_elim (λ (fine : bit_at ill i ≡ 0). omega (arith, none, fine, event_bit i))

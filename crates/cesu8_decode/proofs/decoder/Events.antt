@@ -44,7 +44,7 @@ module _ {f : Flavor} {bytes : List ℕ} {at : ℕ} {width : ℕ} {window : Wind
   fits : window.ill_formed < 2 ^ 64
   fits = marks_fit (is_ill_formed_at f (window_of bytes)) at is.n is.few is.ill_formed
 
-  -- The text of some bytes of the window is no longer than that of a window can be.
+  -- The text of the first n bytes of the window is no longer than the text of a window can be.
   text_fits : (n : ℕ) → n ≤ window.len → length (decoded f (window_of bytes) at n) ≤ most_of_window window
   text_fits n within =
       ⊎_elim (λ (none : window.ill_formed ≡ 0).
@@ -159,7 +159,8 @@ module _ {f : Flavor} {bytes : List ℕ} {at width : ℕ} {window : Window} {sta
         ⊎_elim (λ (pair : bit_at window.pairs next ≡ 1). (pair_set is_window next pair).1)
         (⊎_elim (λ (null : bit_at window.nulls next ≡ 1). absurd (omega (arith, null, other))) (λ (bad : bit_at ill next ≡ 1). absurd (omega (arith, bad, fine)))) next_set
 
-    -- The bytes before it are copied.
+    -- The bytes before it are copied to the buffer, which is then `mid`, up to `copied`. After the
+    -- event is written, the buffer is `last`, and `after` is the end.
     module _ (copied after : ℕ) (mid last : List ℕ) (copy : WritesAt (take (next - read) (drop (at + read) bytes)) end new mid copied) where
       before : WritesAt (decoded f (window_of bytes) at next) start old mid copied
       before = copied_to next copied mid next_low (omega (arith, next_begins, is_window.len)) lowest.below copy

@@ -1,5 +1,5 @@
--- What shuffles pack for a window, byte by byte, for `write_nulls` and `write_replaced`. The former
--- packs 32 offsets at a time and at most one byte for each, the latter 16 and at most three.
+-- What shuffles pack for a window is, byte by byte, what decoding writes for it. `write_nulls`
+-- packs 32 offsets at a time and at most one byte for each, `write_replaced` 16 and at most three.
 use Rattle.std.proofs.Common.{◌≡◌, ◌≢◌, ℕ, zero, suc, ◌+◌, ◌-◌, ◌*◌, ◌/◌, ◌%◌, ◌^◌, ◌<◌, ◌≤◌, ⊎_elim, Bool, false, true≢false, cond, eqb, List, [], ◌∷◌, ◌++◌, refl, sym, ap, ◌∙◌, subst, arith, length, take, get_or, map, replicate, add-zero, zero-add}
 use Rattle.std.specs.Int.{bit_at}
 use Rattle.std.specs.List.{flat_map, range_with_len}
@@ -27,7 +27,7 @@ use Rattle.cesu8_decode.proofs.decoder.PackedLanes.{range_split, range_same, wri
 -- ---- C0 80
 
 -- What is packed for an offset, by the mask of C0 80: nothing for the second byte, 00 for C0, and
--- any other byte itself.
+-- any other byte itself. The mask of the second bytes is `nulls << 1`.
 abbrev pub null_packed : (bytes : List ℕ) (at nulls : ℕ) → ℕ → List ℕ
 null_packed bytes at nulls i =
     written_for (eqb (bit_at (nulls * 2 % 2 ^ 64) i) 1) false (cond (eqb (get_or bytes (at + i) 0) 0xC0) 0 (get_or bytes (at + i) 0))
@@ -65,8 +65,9 @@ module _ {f : Flavor} {bytes : List ℕ} {at : ℕ} {window : Window} (holds : H
   second_packed : (i : ℕ) → bit_at left_out i ≡ 1 → packed i ≡ []
   second_packed i set = rw set refl
 
-  -- From an offset that is not the second byte of C0 80, what is packed is what decoding writes.
-  -- `r` bytes of the window are left, and `m` bounds the steps: each takes C0 80 or one byte.
+  -- From an offset that is not the second byte of C0 80, what is packed is what decoding writes: 00
+  -- for C0 80 if it begins there, and otherwise the byte itself, which then is not C0. `r` bytes of
+  -- the window are left, and `m` bounds the steps: each takes C0 80 or one byte.
   packed_from : (m r i : ℕ) → r ≤ m → i + r ≡ window.len → bit_at left_out i ≡ 0 → ((j : ℕ) → i ≡ j + 1 → is_null_at f bytes (at + j) ≡ false) →
       flat_map packed (range_with_len i r) ≡ decoded f (window_of bytes) (at + i) r
   unfolding decoded
@@ -139,7 +140,7 @@ module _ {f : Flavor} {bytes : List ℕ} {at : ℕ} {window : Window} (holds : H
     most = λ i. one_or_none (eqb (bit_at left_out i) 1) (cond (eqb (byte i) 0xC0) 0 (byte i));
   }
 
-  -- The next block is stored after the blocks before it.
+  -- The next block is stored after the blocks before it: from `middle` to `last`.
   pub block_stored : (n start middle last : ℕ) (block old mid new : List ℕ) → n + 32 ≤ 64 → block ≡ map (λ b. cond (eqb b 0xC0) 0 b) (chunk (at + n) 32 bytes) →
       AreStored f bytes at window packed 1 32 n start old mid middle →
       ((tests : List Bool) → 32 ≤ length tests → left_out / 2 ^ n ≡ mask_l tests → WritesAt (written (take 32 tests) (replicate 32 false) block) middle mid new last) →
@@ -153,7 +154,7 @@ module _ {f : Flavor} {bytes : List ℕ} {at : ℕ} {window : Window} (holds : H
 
 -- ---- replacement characters
 
--- What is packed for an offset, by the mask of ill-formed bytes.
+-- What is packed for an offset, by the mask of ill-formed bytes: U+FFFD, or the byte itself.
 abbrev pub replaced : (bytes : List ℕ) (at ill : ℕ) → ℕ → List ℕ
 replaced bytes at ill i = written_for false (eqb (bit_at ill i) 1) (get_or bytes (at + i) 0)
 
@@ -194,7 +195,7 @@ module _ {f : Flavor} {bytes : List ℕ} {at : ℕ} {window : Window} (holds : H
     most = λ i. at_most_three false (eqb (bit_at window.ill_formed i) 1) (get_or bytes (at + i) 0);
   }
 
-  -- The next sixteen bytes are stored after those before them.
+  -- The next sixteen bytes are stored after those before them: from `middle` to `last`.
   pub half_stored : (n start middle last : ℕ) (half old mid new : List ℕ) → n + 16 ≤ 64 → half ≡ chunk (at + n) 16 bytes →
       AreStored f bytes at window stored 3 16 n start old mid middle →
       ((tests : List Bool) → 16 ≤ length tests → window.ill_formed / 2 ^ n ≡ mask_l tests → WritesAt (written (replicate 16 false) (take 16 tests) half) middle mid new last) →

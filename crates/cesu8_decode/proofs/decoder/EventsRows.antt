@@ -1,7 +1,8 @@
 -- The shuffles that put replacement characters in place of ill-formed bytes, four bytes at a time:
 -- the rows of the table `ROWS` in `pass/events/replaced.rt`. Bit i of a row's number is set if byte
--- i is ill-formed. The last entry of a row is how many bytes it packs. A row drops no byte, so the
--- first number of `kept_of` is 0. The last two say that it packs four bytes, from lane 0 on.
+-- i is ill-formed. The last entry of a row is how many bytes it writes. In `kept_of 0 set 0 4`,
+-- `set` is the number of the row, the first 0 says that no byte is dropped, and `0 4` that the row
+-- packs four bytes, from lane 0 on.
 use Rattle.std.proofs.Common.{◌≡◌, ℕ, ◌+◌, ◌-◌, ◌/◌, ◌%◌, ◌^◌, ◌<◌, ◌≤◌, Bool, true, false, eqb, List, [], ◌∷◌, ◌++◌, length, take, drop, get_or, replicate, refl, sym, ap, ◌∙◌, arith, length-drop, bit_and}
 use Rattle.std.proofs.lemmas.Bool.{agree_below_at, and_parts, eqb-true}
 use Rattle.std.proofs.lemmas.List.{length-take, length-take-le, take-take, drop-take}
@@ -37,7 +38,7 @@ unfolding is_short
 four_at_most = at_most kept_by 12 refl
 
 module _ (row : List ℕ) (set : ℕ) (small : set < 0x10) (row_is : row ≡ shuffle_keeping (kept_of 0 set 0 4)) where
-  -- A row packs at most twelve bytes.
+  -- A row writes at most twelve bytes.
   pub end_of_four : get_or row 15 0 ≤ 12
   end_of_four = end_of_row 4 0 set 12 row row_is (four_at_most set (omega arith)) (omega arith)
 

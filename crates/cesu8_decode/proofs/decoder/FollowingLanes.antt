@@ -1,6 +1,6 @@
--- The class of each pair of bytes and the class that is required, lane by lane, for `pair_classes`
--- and `required_classes` of `lanes/following.rt`. The bits of a required class are 80 (hexadecimal,
--- `TWO_CONTS`) and 20 (`SURROGATE`).
+-- Lane by lane, `pair_classes` of `lanes/following.rt` returns the class of each pair of bytes, and
+-- `required_classes` the class that is required. These lemmas prove both. The bits of a required
+-- class are 80 (hexadecimal, `TWO_CONTS`) and 20 (`SURROGATE`).
 use Rattle.std.proofs.Common.{◌≡◌, ℕ, ◌+◌, ◌%◌, ◌^◌, ◌<◌, ⊎_elim, Bool, true, false, cond, ◌&&◌, List, map, length, replicate, eqb, leb, ltb, bit_and, bit_or, refl, sym, ap, ◌∙◌, arith, Fits, w8, ◌-◌, add-zero, get_or}
 use Rattle.std.proofs.lemmas.Bool.{agree_below, agree_below_at, and_parts, eqb-true, ne_eqb, cases_eq, cases_Bool}
 use lib.Lanes.{zip2, sel_l, top, Each1}
@@ -109,6 +109,8 @@ is_high_lane b h = agree_below_at (λ b. eqb (bit_and b 0xF0) 0xA0) (λ b. leb 0
 abbrev left_of : (less b : ℕ) → ℕ
 left_of less b = bit_and ((cond (top 7 (ones (ltb b less))) less b + (2 ^ 8 - less)) % 2 ^ 8) 0x80
 
+-- The vector of `left_of`, as the code computes it, and what it has to be: 80 for each byte from
+-- `lead` on.
 abbrev left_lanes : (n less : ℕ) → List ℕ → List ℕ
 left_lanes n less bytes =
     zip2 bit_and (zip2 (λ a b. (a + (2 ^ 8 - b)) % 2 ^ 8) (sel_l (map (top 7) (zip2 (λ a b. ones (ltb a b)) bytes (replicate n less)))
@@ -125,17 +127,20 @@ module _ (less lead : ℕ) (agree : agree_below (λ b. eqb (left_of less b) (con
       rw (lanes_are bytes long) (on_range (λ i. left_of less (get_or bytes i 0)) (λ i. cond (leb lead (get_or bytes i 0)) 0x80 0) 0 32
       (λ i low inside. eqb-true _ _ (agree_below_at (λ b. eqb (left_of less b) (cond (leb lead b) 0x80 0)) (λ _. true) 0x100 _ agree (lane_fits bytes long fits i inside))))
 
--- The lanes at which a third byte is required.
+-- 80 for each byte from E0 on, two places earlier, is the class that `later` requires.
 pub third_are : (three two third : List ℕ) → length three ≡ 32 → length two ≡ 32 → third ≡ led_lanes 0xE0 two →
     third ≡ zip2 (λ b d. later d) three two
 third_are three two third long_three long_two is =
     is ∙ rw (lanes_are three long_three, lanes_are two long_two)
     (on_range (λ i. cond (leb 0xE0 (get_or two i 0)) 0x80 0) (λ i. later (get_or two i 0)) 0 32 (λ i low inside. refl))
 
+-- The two class bits differ, so `|` gives their sum.
 both : (third lead second : Bool) →
     bit_or (cond third 0x80 0) (bit_and (bit_and (mask lead) (mask second)) 0x20) ≡ cond third 0x80 0 + cond (lead && second) 0x20 0
 both third lead second = grind (arith, cases_Bool)
 
+-- The vector that `required_classes` returns. `later` has 80 if a third byte is required. `lead`
+-- has FF if ED is four places earlier, `second` if a byte from A0 to AF is three places earlier.
 abbrev required_lanes : ℕ → (later lead second : List ℕ) → List ℕ
 required_lanes n later lead second =
     zip2 bit_or later (zip2 bit_and (zip2 bit_and lead second) (replicate n 0x20))

@@ -66,8 +66,8 @@ module _ (f : Flavor) (xs : List ℕ) (fit : Each1 (Fits w8) xs) where
           nulls = no_marks (is_null_at f xs) 0 n (λ i inside. one_not_null f (x (0 + i)) (w i 1) (one none i inside));
         }
 
-  -- The characters that begin with a byte from C2 on. `below` marks the bytes with bit 40
-  -- (hexadecimal), and `wide` those with bit 20.
+  -- The masks of continuation bytes, of lead bytes, and of characters of two bytes. `below` marks
+  -- the bytes with bit 40 (hexadecimal), and `wide` those with bit 20.
   module _ {high below from_c2 wide : ℕ} (high_is : high ≡ mask_l (map (leb 0x80) xs)) (of_below : HasBits below (λ i. has_bit_below 1 (x i)))
       (c2_is : from_c2 ≡ mask_l (map (leb 0xC2) xs)) (of_wide : HasBits wide (λ i. has_bit_below 2 (x i)))
       (high_fits : high < 2 ^ 64) (c2_fits : from_c2 < 2 ^ 64) (wide_fits : wide < 2 ^ 64) where
@@ -83,26 +83,26 @@ module _ (f : Flavor) (xs : List ℕ) (fit : Each1 (Fits w8) xs) where
     from_c0_fits : from_c0 < 2 ^ 64
     from_c0_fits = and_fits high below high_fits
 
-    -- The bytes that precede a continuation byte.
+    -- `second` marks the bytes that precede a continuation byte.
     pub second_are : HasBits second (λ i. continues (x (i + 1)))
     second_are =
         later_bits 1 (by_equal_test (λ i. continues (x i)) (λ i. continuation_bit (x i) (small i))
         (without_bits high_fits from_c0_fits (class_bits (leb 0x80) xs refl high_is) (and_bits (class_bits (leb 0x80) xs refl high_is) of_below)))
 
-    -- The lead bytes from E0 on that precede a continuation byte.
+    -- This mask marks the lead bytes from E0 on that precede a continuation byte.
     pub long_leads_are : HasBits (bit_and (bit_and from_c2 second) wide) (is_long_lead_at xs)
     long_leads_are =
         by_equal_test (is_long_lead_at xs)
         (λ i. turned (leb 0xC2 (x i)) (continues (x (i + 1))) (has_bit_below 2 (x i)) ∙ ap (λ t. t && continues (x (i + 1))) (wide_lead_bit (x i) (small i)))
         (and_bits (and_bits of_c2 second_are) of_wide)
 
-    -- The bytes C0 and C1.
+    -- This mask marks the bytes C0 and C1.
     pub below_c2_are : HasBits (bit_and from_c0 (bit_not w64 from_c2)) (λ i. leb 0xC0 (x i) && ltb (x i) 0xC2)
     below_c2_are =
         by_equal_test (λ i. leb 0xC0 (x i) && ltb (x i) 0xC2) (λ i. below_c2_bit (x i) (small i))
         (without_bits from_c0_fits c2_fits (and_bits (class_bits (leb 0x80) xs refl high_is) of_below) of_c2)
 
-    -- The characters of two bytes.
+    -- This mask marks the characters of two bytes that begin at the first n offsets.
     pub twos_are : (n first : ℕ) → HasBits first (λ i. ltb i n) →
         Marks (bit_and (bit_and (bit_and from_c2 second) (bit_not w64 wide)) first) (is_two_at xs) 0 n
     twos_are n first of_first =
@@ -112,7 +112,7 @@ module _ (f : Flavor) (xs : List ℕ) (fit : Each1 (Fits w8) xs) where
         ∙ ap (λ t. t && continues (x (i + 1))) (two_lead_bit (x i) (small i))
         ∙ regrouped (leb 0xC2 (x i)) (ltb (x i) 0xE0) (continues (x (i + 1))))
 
-  -- The starts of characters of three bytes among the first n.
+  -- A mask of a form, limited to the first n bits, marks the characters that begin there.
   pub threes_first : (n : ℕ) {a first : ℕ} → HasBits a (is_three_at xs) → HasBits first (λ i. ltb i n) → Marks (bit_and a first) (is_three_at xs) 0 n
   threes_first n h of_first = marks_first (is_three_at xs) n h of_first (λ i inside. refl)
 

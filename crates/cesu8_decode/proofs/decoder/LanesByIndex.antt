@@ -1,6 +1,6 @@
--- What the bits of a mask say about the lanes of a vector, and each vector as a list by index. The
--- proofs about the vectors of `lanes/following.rt` cite these lemmas: TableLookups, FollowingLanes,
--- ErrorMasks and the answers of `two_follow`.
+-- What the bits of a mask say about the lanes of a vector, and that a vector is the list of its
+-- lanes by index. The proofs about the vectors of `lanes/following.rt` cite these lemmas:
+-- TableLookups, FollowingLanes, ErrorMasks and the answers of `two_follow`.
 use Rattle.std.proofs.Common.{◌≡◌, ℕ, zero, suc, ◌+◌, ◌<◌, ◌≤◌, Bool, false, leb, List, refl, sym, ap, ◌∙◌, arith, map, length, get_or, take_all, Fits, w8}
 use Rattle.std.specs.List.{range_with_len}
 use Rattle.std.proofs.lemmas.Bool.{cases_Bool, leb-false}

@@ -185,10 +185,11 @@ class_bits class xs none is = by_equal_test (λ i. class (get_or xs i 0)) same (
         ∙ sym none ∙ ap class (sym (get_or_past xs i 0 past)))
         (cases_lt i (length xs))
 
--- A test of n offsets, by index.
+-- Entry i of the tests of n offsets is that of the i-th offset, and false from entry n on.
 range_tested : (test : ℕ → Bool) (at n i : ℕ) → get_or (map test (range_with_len at n)) i false ≡ (ltb i n && test (at + i))
 range_tested test at n i = grind (arith, get_or-map-range_with_len, lt-ltb, get_or_past, length-map-range_with_len, le-ltb)
 
+-- A mask marks n offsets if bit i is set exactly if i is less than n and `at + i` passes the test.
 pub marks_from : (test : ℕ → Bool) (at n : ℕ) {a : ℕ} → HasBits a (λ i. ltb i n && test (at + i)) →
     a ≡ mask_l (map test (range_with_len at n))
 marks_from test at n {a = a} h =
@@ -218,7 +219,8 @@ module _ (mask : ℕ) (test : ℕ → Bool) (at n : ℕ) (marks : mask ≡ mask_
   pub unmarked : (i : ℕ) → bit_at mask i ≡ 0 → i < n → test (at + i) ≡ false
   unmarked i none inside = ap (λ t. t && test (at + i)) (sym (lt-ltb i n inside)) ∙ unset _ _ ((bits_from test at n marks).bit i) none
 
-  -- If no later offset passes the test, an offset whose bit is not set fails it.
+  -- If no offset from `at + n` to `end` passes the test, an offset before `end` whose bit is not
+  -- set fails it.
   pub unmarked_in : (end : ℕ) → ((i : ℕ) → at + n ≤ i → i < end → test i ≡ false) → (i : ℕ) → at ≤ i → i < end → bit_at mask (i - at) ≡ 0 → test i ≡ false
   unmarked_in end later i low inside none =
       let there : at + (i - at) ≡ i = omega arith in
@@ -255,7 +257,7 @@ none_set {a = a} {p = p} is h i = unset (p i) (bit_at a i) (h.bit i) (ap (λ n. 
 
 -- ---- bytes
 
--- Each lane is less than 100 (hexadecimal), and so are the zeros after the lanes.
+-- Each lane is less than 256, and so are the zeros after the lanes.
 pub lanes_below : (xs : List ℕ) → Each1 (Fits w8) xs → (i : ℕ) → get_or xs i 0 < 256
 lanes_below xs fit i = grind (arith, Each1-get_or, get_or_past)
 

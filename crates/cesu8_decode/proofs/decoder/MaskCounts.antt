@@ -21,7 +21,9 @@ use Rattle.cesu8_decode.proofs.decoder.MaskTests.{pair_width}
 abbrev one_if : Bool → ℕ
 one_if t = cond t 1 0
 
--- At most one of the tests of the five forms passes, and it decides what is saved.
+-- If at most one of the tests of the five forms passes, it decides what is saved. `is_c0` says
+-- whether the first byte is C0. If there is no character of one byte, both sides are 2 more than
+-- what is saved.
 by_forms : (one null two three pair is_c0 : Bool) →
     (one ≡ true → (null ≡ false) × (two ≡ false) × (three ≡ false) × (pair ≡ false)) →
     (null ≡ true → (two ≡ false) × (three ≡ false) × (pair ≡ false) × (is_c0 ≡ true)) →
@@ -32,8 +34,8 @@ by_forms : (one null two three pair is_c0 : Bool) →
     × (one_if two + one_if three + one_if pair + one_if null ≤ one_if (not one))
 by_forms one null two three pair is_c0 h1 h2 h3 h4 = grind arith
 
--- An offset saves 2, or nothing if it is no character of one byte, and more by the form that begins
--- there.
+-- An offset saves 2 if a character of one byte is there, and otherwise what the form that begins
+-- there saves. At most one other form begins there, and none at a character of one byte.
 offset_saves : (f : Flavor) (a b d e g h : ℕ) →
     (saved (first_width_by f a b d e g h) a + 2 * one_if (not (one_at f a))
     ≡ 2 + 4 * one_if (two_at a b) + 6 * one_if (three_at a b d) + 14 * one_if (pair_at a b d e g h) + 5 * one_if (null_at f a b))
@@ -52,7 +54,7 @@ at_most_one t = grind arith
 -- ---- many
 
 module _ (f : Flavor) (bytes : List ℕ) where
-  -- What n offsets save, by how many of them begin with each form.
+  -- What n offsets save, by the number of offsets at which each form begins.
   saved_by_counts : (i n : ℕ) →
       let count : (ℕ → Bool) → ℕ = λ test. count_by test (range_with_len i n) in
       (saved_between f bytes i n + 2 * count (is_other_at f bytes)
@@ -135,7 +137,8 @@ module _ (f : Flavor) (bytes : List ℕ) where
       saved_agrees f (chunk at 64 bytes) bytes 0 at n
       (λ k small. ap (λ i. get_or (chunk at 64 bytes) i 0) (zero-add k) ∙ get_or-chunk at 64 bytes k 0 (omega arith))
 
-  -- The bytes from an offset on save what the next n offsets save, and what those after them save.
+  -- The bytes from an offset on save what the next n offsets save and what the bytes after these
+  -- save.
   pub saved_next : (at n : ℕ) → at + n ≤ length bytes →
       total_saved f (drop at bytes) ≡ saved_between f bytes at n + total_saved f (drop (at + n) bytes)
   saved_next at n fits =

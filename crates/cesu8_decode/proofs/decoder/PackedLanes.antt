@@ -139,7 +139,7 @@ module _ (f : Flavor) (bytes : List ℕ) (at : ℕ) (window : Window) (pack : Bo
   abbrev packs : ℕ → List ℕ
   packs i = pack (eqb (bit_at word i) 1) (get_or bytes (at + i) 0)
 
-  -- The lanes from an offset on are stored after those before them.
+  -- The lanes from an offset on are stored after those before them: from `middle` to `last`.
   pub next_stored : (n start middle last : ℕ) (old mid new : List ℕ) → n + size ≤ 64 → at + n + size ≤ length bytes → AreStored f bytes at window packs bound size n start old mid middle →
       ((tests : List Bool) → size ≤ length tests → word / 2 ^ n ≡ mask_l tests → WritesAt (all (take size tests) (chunk (at + n) size bytes)) middle mid new last) →
       AreStored f bytes at window packs bound size (n + size) start old new last

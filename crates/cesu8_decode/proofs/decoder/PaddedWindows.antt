@@ -1,6 +1,6 @@
--- The window of at most 64 bytes, with zeros after them, for `window_of_short` of
--- `lanes/windows.rt` and for `pass/short.rt`. `window_of` puts five zeros before the bytes, so that
--- what is said of `window_of bytes` at offset i is about byte i of the bytes.
+-- The window of at most 64 bytes is also that of these bytes with zeros after them. This is for
+-- `window_of_padded` of `lanes/windows.rt` and for `pass/short.rt`. `window_of` puts five zeros
+-- before the bytes, so that what is said of `window_of bytes` at offset i is about byte i of these.
 use Rattle.std.proofs.Common.{◌≡◌, ℕ, ◌+◌, ◌^◌, ◌<◌, ◌≤◌, ⊎_elim, Bool, true, false, not, ◌&&◌, ◌||◌, eqb, ltb, List, ◌++◌, length, take, replicate, get_or, bit_and, sym, ap, ◌∙◌, arith, w64, zero-add}
 use Rattle.std.specs.Int.{bit_not}
 use Rattle.std.proofs.lemmas.Bool.{cases_lt, le-ltb}
@@ -35,7 +35,7 @@ alike_without_zeros source n fits zeros k = grind (arith, nat_tests, get_or-take
 pub ends_with_bytes : (f : Flavor) (bytes : List ℕ) (window : Window) (is : IsWindow f bytes 0 window) → is.n ≡ length bytes → window.len ≡ length bytes
 ends_with_bytes f bytes window is all = ends_at_zero f bytes 0 window is (get_or_past bytes (0 + is.n) 0 (omega (arith, all))) ∙ all
 
--- A window of some bytes is a window of all bytes that agree with them.
+-- A window of some bytes is also a window of any bytes that agree with these at every offset.
 pub window_of_alike : (f : Flavor) (a b : List ℕ) (at : ℕ) (window : Window) → ((k : ℕ) → get_or a k 0 ≡ get_or b k 0) → IsWindow f a at window →
     IsWindow f b at window
 window_of_alike f a b at window alike is = record {
@@ -113,7 +113,8 @@ module _ (f : Flavor) (bytes : List ℕ) (changed : ℕ) (given : AreChanges f b
   pub no_nulls_of_changed : (f ≡ Mutf8 → ⊥) → HasBits 0 (λ i. ltb i n && is_null_at f bytes (0 + i))
   no_nulls_of_changed other = grind (arith, nat_tests, by_equal_test, no_null_of, dropped, no_bits)
 
-  -- The other characters marked by `changed` are surrogate pairs, and no byte is ill-formed.
+  -- `changed & !nulls` and `nulls` are the masks of a window of all bytes: the other characters
+  -- marked by `changed` are surrogate pairs, and no byte is ill-formed.
   pub changed_is_window : (nulls : ℕ) → n ≤ 64 → changed < 2 ^ 64 → nulls < 2 ^ 64 → HasBits nulls (λ i. ltb i n && is_null_at f bytes (0 + i)) →
       IsWindow f bytes 0 (record { ill_formed = 0; pairs = bit_and changed (bit_not w64 nulls); nulls = nulls; len = n })
   changed_is_window nulls few changed_fits nulls_fit of_nulls = record {

@@ -1,5 +1,6 @@
--- The pass from window to window, for the loops of `pass::windows` and for one window alone. What
--- the definitions say of `window_of bytes` at an offset is about the byte of `bytes` there.
+-- How the pass goes on from one window to the next, for the loops of `pass::windows`, and what one
+-- window alone gives, for `pass::short`. What the definitions say of `window_of bytes` at an offset
+-- is about the byte of `bytes` there.
 use Rattle.std.proofs.Common.{◌≡◌, ℕ, ◌+◌, ◌≤◌, Bool, true, false, true≢false, List, [], ◌++◌, refl, sym, ap, ◌∙◌, subst, arith, length, take, drop, append-nil, append_assoc, length-append, length-drop, take-append-drop, Result, Ok, Err, OkIff}
 use Rattle.std.proofs.lemmas.List.{length-take-le}
 use Rattle.cesu8_text.specs.Encoding.{Flavor, encoding}
@@ -104,7 +105,7 @@ module _ (f : Flavor) (which : Strictness) (bytes : List ℕ) where
       IsDecoded f which (window_of bytes) 0 after.read start (text ++ take after.end new) is_rejected
   reads_on before after old new start text is_rejected more empty refused so_far = grind (arith, append-nil)
 
--- A text that is written is the result of decoding that does not fail.
+-- If the text is written (`WritesText`), a result that is `Ok` with its end meets `WritesReading`.
 pub reads_text : {E : Type 0} (f : Flavor) (which : Strictness) (bytes old new : List ℕ) (end : ℕ) → WritesText f which bytes end old new →
     (result : Result ℕ E) → OkIff result (which ≡ Strict → false ≡ false) end → WritesReading f which bytes result old new
 reads_text f which bytes old new end writes (Ok len) ok = rw ok.1 (record { text = writes.text; end = writes.fits; none = tt; len = writes.len })
@@ -135,7 +136,7 @@ pair_goes_on f which bytes read end new_end is long has four old new is_utf8 put
     (subst (λ bs. WritesAt bs end old new new_end) (sym (pair_decoded f bytes read is.within is.boundary has long four is_utf8)) put.writes)
     (λ _. pair_fine f bytes read is.within is.boundary has long)) fits
 
--- The unchanged prefix of what comes next is copied.
+-- The unchanged prefix of the next k bytes is copied.
 pub front_goes_on : (f : Flavor) (which : Strictness) (bytes part : List ℕ) (k read end len new_end : ℕ) → IsPass f bytes read → part ≡ take k (drop read bytes) →
     IsLongestPrefix Unchanged f part len → (old new : List ℕ) → PutsAt (take len part) end old new new_end → new_end ≤ length new →
     GoesOn f which bytes (pass_at read end) (pass_at (read + len) new_end) old new

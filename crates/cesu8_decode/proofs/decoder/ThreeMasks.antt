@@ -1,4 +1,5 @@
--- The masks of characters of three bytes and of surrogate pairs, from masks of classes of bytes.
+-- The masks of characters of three bytes and of surrogate pairs, from masks of classes of bytes,
+-- for `threes_and_pairs` of `lanes/masks.rt`.
 use Rattle.std.proofs.Common.{◌≡◌, ℕ, ◌+◌, ◌/◌, ◌^◌, ◌<◌, eqb, List, get_or, bit_and, bit_or, ap, sym, ◌∙◌, arith, w64}
 use Rattle.std.specs.Int.{bit_not}
 use Rattle.std.proofs.lemmas.Nat.{and_le_l, or_lt}
@@ -7,10 +8,9 @@ use Rattle.cesu8_decode.specs.Masks.{HasBits, has_bit_below, is_long_lead_at, is
 use Rattle.cesu8_decode.proofs.decoder.MaskBits.{by_equal_test, and_bits, or_bits, without_bits, later_bits, no_bits, none_set}
 use Rattle.cesu8_decode.proofs.decoder.MaskTests.{whole_by, surrogate_by, pair_by, three_bits, pair_bits, no_surrogate, no_lead_no_three, no_lead_no_pair}
 
--- The masks that `threes_and_pairs` (`lanes/masks.rt`) computes. `leads` marks the bytes from E0 on
--- that a continuation byte follows, and `second` any byte that one follows. `odd` marks the bytes
--- with bit 10 (hexadecimal), `wide` those with bit 20, `led` the bytes ED, and `lowest` those that
--- are E0.
+-- Masks that `threes_and_pairs` computes. `leads` marks the bytes from E0 on that a continuation
+-- byte follows, and `second` any byte that one follows. `odd` marks the bytes with bit 10
+-- (hexadecimal), `wide` those with bit 20, `led` the bytes ED, and `lowest` the bytes E0.
 abbrev whole_of : (leads second odd : ℕ) → ℕ
 whole_of leads second odd = bit_and (bit_and leads (second / 2)) (bit_not w64 odd)
 
@@ -35,7 +35,7 @@ module _ (xs : List ℕ) where
 
   module _ (small : (i : ℕ) → get_or xs i 0 < 256) {leads second odd : ℕ} (of_leads : HasBits leads (is_long_lead_at xs))
       (of_second : HasBits second (λ i. continues (x (i + 1)))) (of_odd : HasBits odd (λ i. has_bit_below 3 (x i))) (leads_fit : leads < 2 ^ 64) (odd_fits : odd < 2 ^ 64) where
-    -- The bytes that pass all tests except those of the second byte.
+    -- `whole_of` marks the bytes from E0 to EF that two continuation bytes follow.
     of_whole : HasBits (whole_of leads second odd) (λ i. whole_by (x i) (x (i + 1)) (x (i + 2)) (has_bit_below 3 (x i)))
     of_whole =
         let third = by_equal_test (λ i. continues (x (i + 2))) (λ i. let offset : i + 1 + 1 ≡ i + 2 = omega arith in ap (λ j. continues (x j)) offset) (later_bits 1 of_second) in
@@ -46,7 +46,7 @@ module _ (xs : List ℕ) where
 
     module _ {wide led lowest : ℕ} (of_wide : HasBits wide (λ i. has_bit_below 2 (x i))) (of_led : HasBits led (λ i. eqb (x i) 0xED))
         (of_lowest : HasBits lowest (λ i. eqb (x i) 0xE0)) (wide_fits : wide < 2 ^ 64) (lowest_fits : lowest < 2 ^ 64) where
-      -- The surrogates.
+      -- `surrogates_of` marks the surrogates.
       surrogate_mask : HasBits (surrogates_of leads second wide odd led)
           (λ i. surrogate_by (x i) (x (i + 1)) (x (i + 2)) (has_bit_below 3 (x i)) (has_bit_below 2 (x (i + 1))))
       surrogate_mask = and_bits (and_bits of_whole (later_bits 1 of_wide)) of_led
@@ -54,18 +54,20 @@ module _ (xs : List ℕ) where
       surrogates_fit : surrogates_of leads second wide odd led < 2 ^ 64
       surrogates_fit = and_fits (bit_and (whole_of leads second odd) (wide / 2)) led (and_fits (whole_of leads second odd) (wide / 2) whole_fits)
 
-      -- The characters of three bytes.
+      -- This mask marks the characters of three bytes.
       pub threes_are : HasBits (bit_and (whole_of leads second odd) (bit_not w64 (bit_or (surrogates_of leads second wide odd led) (bit_and lowest (bit_not w64 (wide / 2)))))) (is_three_at xs)
       threes_are =
           by_equal_test (is_three_at xs) (λ i. three_bits (x i) (x (i + 1)) (x (i + 2)) (small i) (small (i + 1)))
           (without_bits whole_fits (or_lt 64 _ _ surrogates_fit (and_fits lowest (bit_not w64 (wide / 2)) lowest_fits)) of_whole
           (or_bits surrogate_mask (without_bits lowest_fits (omega arith) of_lowest (later_bits 1 of_wide))))
 
-      -- The surrogate pairs. Without a surrogate there is none.
+      -- If there is no surrogate, no surrogate pair begins.
       pub no_pairs_are : surrogates_of leads second wide odd led ≡ 0 → HasBits 0 (is_six_at xs)
       no_pairs_are none =
           by_equal_test (is_six_at xs) (λ i. sym (no_surrogate (x i) (x (i + 1)) (x (i + 2)) (small i) (small (i + 1)) (x (i + 3)) (x (i + 4)) (x (i + 5)) (none_set none surrogate_mask i))) no_bits
 
+      -- This mask marks the surrogate pairs: a high surrogate, and three bytes later a low one
+      -- (`low`).
       pub pairs_are :
           let surrogates = surrogates_of leads second wide odd led in
           let low = bit_and surrogates (odd / 2) in

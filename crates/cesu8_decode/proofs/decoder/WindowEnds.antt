@@ -103,7 +103,8 @@ found_in_window f bytes at window is some =
 ill_formed_there : (f : Flavor) (window : List ℕ) (i : ℕ) → is_boundary_at f window i ≡ true → width_at f window (i + 5) ≡ 0 → is_ill_formed_at f window i ≡ true
 ill_formed_there f window i boundary none = grind (arith, nat_tests)
 
--- A window ends at its last offset if a zero follows.
+-- A window ends after its n offsets if a zero follows them: a character has no zero after its first
+-- byte.
 pub ends_at_zero : (f : Flavor) (bytes : List ℕ) (at : ℕ) (window : Window) (is : IsWindow f bytes at window) → get_or bytes (at + is.n) 0 ≡ 0 →
     window.len ≡ is.n
 ends_at_zero f bytes at window is null = grind (arith, nat_tests, ill_formed_there, boundary_at_zero, width_there)

@@ -15,8 +15,8 @@ use Rattle.cesu8_decode.specs.declared.lanes.windows.Window.{Window}
 use Rattle.cesu8_decode.proofs.decoder.PaddedWindows.{alike_with_zeros, window_of_alike}
 use Rattle.cesu8_decode.proofs.decoder.WrittenWindows.{all_decoded, decoded_in, windows_alike, writes_window}
 
--- A copy of `count` bytes from offset `at` to `end` stores `width` bytes. `n` is the end of the
--- copied ones, and `m` that of the stored ones.
+-- A copy of `count` bytes, from offset `at` of `bytes` to offset `end` of a slice, stores `width`
+-- bytes. `n` is the end of the copied ones, and `m` that of the stored ones.
 pub first_copied : (width count at end m n : ℕ) (bytes old new : List ℕ) → n ≡ end + count → WritesAt (take width (drop at bytes)) end old new m →
     count ≤ width → at + width ≤ length bytes → end ≤ length old → WritesAt (take count (drop at bytes)) end old new n
 first_copied width count at end m n bytes old new is writes few inside room =

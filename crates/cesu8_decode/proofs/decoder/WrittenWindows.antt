@@ -125,7 +125,8 @@ decoded_in f which a b before text i j n is_rejected agree is = record {
     same : (s : ℕ) → s < n → is_ill_formed_at f a (i + s) ≡ is_ill_formed_at f b (j + s)
     same s small = ill_formed_agrees f a b (i + s) (j + s) (agree_later a b i j (n + 10) s 11 (omega arith) agree)
 
--- The text of n bytes is written, none of which strict decoding rejects.
+-- If the text of n bytes is written, and strict decoding rejects none of them, `WritesDecoded`
+-- holds.
 pub writes_fine : (f : Flavor) (which : Strictness) (window : List ℕ) (at n start end : ℕ) (old new : List ℕ) → WritesAt (decoded f window at n) start old new end →
     (which ≡ Strict → (i : ℕ) → at ≤ i → i < at + n → is_ill_formed_at f window i ≡ false) → WritesDecoded f which window at n start old new end false
 writes_fine f which window at n start end old new written fine = record {
@@ -134,7 +135,7 @@ writes_fine f which window at n start end old new written fine = record {
   len = written.len;
 }
 
--- The text of a window is written.
+-- If the text of a window is written (`WritesWindow`), `WritesDecoded` holds for its bytes.
 pub writes_window : (f : Flavor) (which : Strictness) (bytes : List ℕ) (at : ℕ) (window : Window) (start end : ℕ) (old new : List ℕ) →
     IsWindow f bytes at window → (which ≡ Strict → window.ill_formed ≡ 0) → WritesWindow f bytes at window start old new end →
     WritesDecoded f which (window_of bytes) at window.len start old new end false
@@ -147,7 +148,7 @@ pub rejects_window : (f : Flavor) (which : Strictness) (bytes : List ℕ) (at : 
     WritesDecoded f which (window_of bytes) at window.len start old old start true
 rejects_window f which bytes at window start old is some strict = grind (arith, nat_tests, found_in_window f bytes at window is some)
 
--- A window of `count` offsets ends at the last of them if a zero follows.
+-- A window of `count` offsets ends after them if a zero follows.
 pub ends_at : (f : Flavor) (bytes : List ℕ) (at count : ℕ) (window : Window) (is : IsWindow f bytes at window) → is.n ≡ count →
     get_or bytes (at + count) 0 ≡ 0 → window.len ≡ count
 ends_at f bytes at count window is few null = ends_at_zero f bytes at window is (ap (λ n. get_or bytes (at + n) 0) few ∙ null) ∙ few
@@ -170,13 +171,14 @@ all_decoded f which bytes start text n is all =
     chunk Strict is = strict_chunk f bytes (window_of bytes) n padded (omega arith) boundary Strict (λ i small. is.strict refl refl i (omega arith) (omega arith))
     chunk Lossy is = lossy_chunk f bytes (window_of bytes) n padded (omega arith) boundary
 
--- If strict decoding rejects no byte, none is rejected.
+-- If strict decoding rejects no byte, none is rejected, since lossy decoding never rejects one.
 pub none_rejected : (f : Flavor) (which : Strictness) (window old new : List ℕ) (at n : ℕ) (is_rejected : Bool) →
     IsDecoded f which window at n old new is_rejected → (which ≡ Strict → is_rejected ≡ false) → is_rejected ≡ false
 none_rejected f Strict window old new at n is_rejected is strict = strict refl
 none_rejected f Lossy window old new at n is_rejected is strict = is.lossy refl
 
--- If it is not true that strict decoding rejects nothing, a byte was rejected.
+-- `unless_rejected` returns an error only if it is false that strict decoding rejects nothing. Then
+-- a byte was rejected.
 pub some_rejected : (which : Strictness) (is_rejected : Bool) → ¬ (which ≡ Strict → is_rejected ≡ false) → is_rejected ≡ true
 some_rejected which true some = refl
 some_rejected which false some = absurd (some (λ _. refl))

@@ -1,10 +1,10 @@
 //! Decodes to a caller's slice, without allocation. After an error the slice is unchanged, and
 //! after success the bytes after the text are unchanged.
 //!
-//! Vectors store bytes after the text, so short input (up to 1,024 bytes, or 4,096 in lossy
-//! decoding) is decoded to an array and copied from there. For longer input a first pass makes sure
-//! that decoding succeeds: strict decoding validates all bytes, and also counts the length if the
-//! slice is shorter than the input. Lossy decoding always counts the length.
+//! Vectors store bytes after the text, so input of up to 1,024 bytes, or 4,096 in lossy decoding,
+//! is decoded to an array and copied from there. For longer input a first pass finds out whether
+//! decoding succeeds: strict decoding validates all bytes, and also counts the length if the slice
+//! is shorter than the input. Lossy decoding always counts the length.
 
 ghost use Rattle.std.specs.Prelude.{◌≡◌, ◌+◌, ◌≤◌, ◌<◌, ◌++◌, length, drop};
 ghost use Rattle.cesu8_bytes.specs.Puts.{PutsAnswer};
@@ -69,8 +69,8 @@ fn put_after_prefix<F: Flavor>(
     if !begins_changed::<F>(rest) {
         return Err(WriteError::NoText);
     }
-    // If the slice is shorter than the prefix, no byte is left for the rest. Its text has at least
-    // one, so the result is an error.
+    // If the slice is shorter than the prefix, no byte is left for the text of the rest, which has
+    // at least one. So the result is an error.
     let start = prefix.min(buf.len());
     match put_by_strategy::<F>(rest, &mut buf[start..]) {
         Ok(len) => {
@@ -207,10 +207,10 @@ fn copy_short_by_call(bytes: &[u8], buf: &mut [u8])
     copy_short(bytes, buf);
 }
 
-/// Writes the decoded text of more bytes by `put_chunks`. In strict decoding it first validates the
-/// bytes: if none is ill-formed, the lossily decoded text is the strictly decoded text. It then
-/// counts the length, unless the bytes are valid and the slice is at least as long as the input. It
-/// is not inlined, so that shorter input has few registers to save.
+/// Writes the decoded text of more bytes than are decoded to an array, by `put_chunks`. In strict
+/// decoding it first validates the bytes: if none is ill-formed, the lossily decoded text is the
+/// strictly decoded text. It then counts the length, unless the bytes are valid and the slice is at
+/// least as long as the input. It is not inlined, so that shorter input has few registers to save.
 #[inline(never)]
 fn put_many<F: Flavor, S: Reading>(bytes: &[u8], buf: &mut [u8]) -> Result<usize, WriteError>
     ensures { PutsReading F.flavor S.which bytes.now result buf.old buf.new }

@@ -24,8 +24,8 @@ use cesu8_bytes::pairs::{PAIR, PAIR_READ, utf8_of_pair};
 use cesu8_bytes::strictness::{NoText, StrictReading};
 use cesu8_bytes::writing::copies::{append, append_prefix, append_short};
 
-/// If the first unchanged run is shorter than this, the rest is decoded window by window, unless at
-/// most 64 bytes are left: windows are then faster.
+/// If the first unchanged run is shorter than this, windows are faster. So the rest is decoded
+/// window by window, unless at most 64 bytes are left.
 const FIRST_RUN: usize = 16;
 
 /// If a later unchanged run is shorter than this, the rest is decoded window by window: windows are

@@ -137,7 +137,7 @@ fn build_chunks<F: Flavor>(alloc: Global, bytes: &[u8]) -> Result<Vec<u8>, Alloc
 }
 
 /// Splits the bytes at a character boundary, into a first part whose text fits an array and the
-/// rest. The boundary is sought among the last 32 offsets up to `LARGEST_ARRAY`. If there is none,
+/// rest. The boundary is sought among the last 32 offsets up to `LARGEST_ARRAY`. If none is found,
 /// the first part is empty.
 #[inline(always)]
 fn first_part(bytes: &[u8]) -> (&[u8], &[u8])

@@ -16,14 +16,15 @@ use std::simd::prelude::*;
 /// since no character is longer than six bytes.
 pub const STEP: usize = LANES - 5;
 
-/// The starts of characters: bit `i` of a mask is set if a character of its form begins there.
+/// The starts of characters: bit `i` of each mask but `others` is set if a character of the mask's
+/// form begins at offset `i`.
 #[derive(Clone, Copy)]
 pub struct Masks {
     /// Bytes that are not a character of one byte: bytes that are not ASCII, and in MUTF-8 also 00.
     pub others: u64,
     /// Characters of two bytes, except C0 80.
     pub twos: u64,
-    /// Characters of three bytes, except the halves of a surrogate pair.
+    /// Characters of three bytes. Half of a surrogate pair is not one.
     pub threes: u64,
     /// Surrogate pairs, of six bytes.
     pub pairs: u64,
@@ -51,7 +52,8 @@ pub fn masks_of<F: Flavor, const N: usize>(lanes: Simd<u8, N>, count: usize) -> 
             nulls: 0,
         };
     }
-    // A byte from 80 on is a continuation byte if the bit below its highest is clear.
+    // A byte from 80 on is a continuation byte if the bit below its highest is clear. `second`
+    // marks the bytes that precede one.
     let from_c0 = high & bits_below::<N>(lanes, 1);
     let second = (high & !from_c0) >> 1;
     let from_c2 = bits::<AtLeast<0xC2>, N>(lanes);
@@ -122,7 +124,7 @@ fn nulls_of<F: Flavor, const N: usize>(lanes: Simd<u8, N>, below_c2: u64) -> u64
 
 /// Returns the starts of three-byte characters and of surrogate pairs. `leads` marks bytes from E0
 /// on that precede a continuation byte, and `second` any byte that precedes one. `wide` marks bytes
-/// with bit 20 (hexadecimal): lead bytes from E0 on, and continuation bytes from A0 on.
+/// with bit 20 (hexadecimal), which lead bytes have from E0 on, and continuation bytes from A0 on.
 #[inline(always)]
 fn threes_and_pairs<const N: usize>(
     lanes: Simd<u8, N>,
@@ -140,7 +142,8 @@ fn threes_and_pairs<const N: usize>(
     if leads == 0 {
         return (0, 0);
     }
-    // Bit 10 is set in lead bytes from F0 on, and among continuation bytes A0 to BF from B0 on.
+    // Of the bytes from E0 on, those from F0 on have bit 10 (hexadecimal). Of the continuation
+    // bytes A0 to BF, those from B0 on have it.
     let odd = bits_below::<N>(lanes, 3);
     let whole = leads & (second >> 1) & !odd;
     // No branch asks for E0 and ED first: in mixed text it would be mispredicted.

@@ -27,13 +27,13 @@ pub struct Window {
     pub pairs: u64,
     /// The starts of C0 80, in MUTF-8.
     pub nulls: u64,
-    /// The end of the last character that begins in the window, as a number of bytes.
+    /// The number of bytes: the offsets that were tested, and the rest of the last character.
     pub len: usize,
 }
 
 /// Returns the window of the characters that begin at the next `count` offsets. `at` is a character
-/// boundary. With at most `STEP` offsets these characters end within the 64 bytes. `count` may be
-/// up to 64 if the five bytes after these are zeros or missing.
+/// boundary. With at most `STEP` offsets these characters end within the 64 bytes from `at` on.
+/// `count` may be up to 64 if the five bytes after those 64 are zeros or missing.
 #[inline(always)]
 pub fn window_at<F: Flavor>(bytes: &[u8], at: usize, count: usize) -> Window
     requires bytes { at + LANES ≤ length bytes.now }
@@ -75,9 +75,9 @@ pub fn window_of_padded<F: Flavor, const N: usize>(bytes: &[u8], lanes: Simd<u8,
     }
 }
 
-/// Returns the window of the characters that begin at the first `count` lanes. It is also the
-/// window of any bytes at a character boundary, if the first `count + 5` bytes from there equal the
-/// lanes, with zeros after the last lane.
+/// Returns the window of the characters that begin at the first `count` lanes. The promise is about
+/// any bytes with a character boundary `at`: if the `count + 5` bytes from there equal the lanes,
+/// with zeros after the last lane, this is the window at `at`.
 #[inline(always)]
 fn window_of_lanes<F: Flavor, const N: usize>(lanes: Simd<u8, N>, count: usize) -> Window
     requires lanes { N ≤ LANES }

@@ -43,7 +43,7 @@ const REPLACEMENTS: [u8; 32] = [
 /// If a window has at least this many C0 80, and no other event, shuffles pack it.
 pub const MANY_NULLS: u32 = 4;
 /// If a window has at least this many runs of ill-formed bytes, and no other event, shuffles pack
-/// it. Fewer runs are faster by stores of the replacement character.
+/// it. With fewer runs it is faster to store replacement characters for one run after another.
 const MANY_RUNS: u32 = 5;
 
 /// Writes the text of a window that has no ill-formed byte, and returns its end.

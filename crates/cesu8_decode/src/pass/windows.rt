@@ -68,6 +68,7 @@ pub fn write_windows<F: Flavor>(
     ensures all { read ≡ 0 → room_for strictness (length bytes.now) ≤ length out.old
         → result.is_rejected ≡ false → result.read ≡ length bytes.now }
 {
+    // If the text so far ends at `limit` or before it, the buffer has space for another window.
     let limit = out.len() - ROOM;
     let pairs = write_pairs::<F>(bytes, read, limit, out);
     let pass = write_in_place::<F>(bytes, pairs, strictness, limit, out);
@@ -99,7 +100,8 @@ fn write_pairs<F: Flavor>(bytes: &[u8], read: usize, limit: usize, out: &mut [u8
         → GoesOn F.flavor which bytes.now (pass_from read) result out.old out.new }
     ensures fine { result.is_rejected ≡ false }
 {
-    // The loop ends at the last pair that the buffer has space for, with no test of space for each.
+    // The loop reads no pair from `last` on. So at most `limit` bytes are written before each pair,
+    // and the loop needs no test of space.
     let stop = read + (bytes.len() - read).min(limit / PAIR_UTF8 * PAIR + PAIR_READ);
     let last = stop.saturating_sub(PAIR_READ - 1);
     let mut at = read;

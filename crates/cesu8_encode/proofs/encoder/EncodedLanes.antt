@@ -22,7 +22,8 @@ shl a b = a * 2 ^ b % 2 ^ 8
 abbrev shr : ℕ → ℕ → ℕ
 shr a b = a / 2 ^ b
 
--- The six bits of each byte and its next, by shifts and masks of vectors.
+-- The six bits of each byte and its next (`six_bits` of specs/EncodedOffsets.antt), by shifts and
+-- masks of vectors.
 abbrev pub six_bit_lanes : ℕ → List ℕ → List ℕ → List ℕ
 six_bit_lanes n bytes next =
     zip2 bit_or (zip2 bit_and (zip2 shl bytes (replicate n 2)) (replicate n 0x3C)) (zip2 bit_and (zip2 shr next (replicate n 4)) (replicate n 3))
@@ -151,7 +152,7 @@ pub lead_or_null : (f : Flavor) (b : ℕ) → (is_at_least_f0 b && is_null f b) 
 lead_or_null Cesu8 b = grind (arith, nat_tests)
 lead_or_null Mutf8 b = grind (arith, nat_tests)
 
--- Packing writes what is written for each offset, in turn.
+-- Packing gives, for each offset v in turn, g v and h v if v passes the test t, and otherwise h v.
 pub packed_offsets : (t : ℕ → Bool) (g h : ℕ → ℕ) (vs : List ℕ) →
     packed (map t vs) (map g vs) (map h vs) ≡ flat_map (λ v. cond (t v) (g v ∷ h v ∷ []) (h v ∷ [])) vs
 packed_offsets t g h [] = refl

@@ -103,14 +103,15 @@ module _ (firsts seconds : List ℕ) (ts : List Bool) (f : length firsts ≡ 32)
       (omega (arith, length-drop a ts, length-drop a firsts)) (omega (arith, length-drop a ts, length-drop a seconds))
       ∙ rw (drop-drop 8 a ts, drop-drop 8 a firsts, drop-drop 8 a seconds, lanes_of_first seconds firsts a 8 (omega arith), lanes_of_second seconds firsts 32 a 8 s (omega arith)) refl
 
-  -- Four rows in turn are the packed block.
+  -- Four rows in turn are the packed block: x0 is what precedes the block, and each of x1 to x4 has
+  -- one row more.
   pub four_rows : (x0 x1 x2 x3 x4 : List ℕ) → x1 ≡ x0 ++ row 0 → x2 ≡ x1 ++ row 8 → x3 ≡ x2 ++ row 16 → x4 ≡ x3 ++ row 24 →
       x4 ≡ x0 ++ packed ts firsts seconds
   four_rows x0 x1 x2 x3 x4 e1 e2 e3 e4 =
       let last : packed (drop 32 ts) (drop 32 firsts) (drop 32 seconds) ≡ [] = rw (drop_all 32 ts (omega arith)) refl in
       grind (arith, append_assoc, append-nil, part 0 (omega arith), part 8 (omega arith), part 16 (omega arith), part 24 (omega arith), last)
 
--- The bits of the first three rows are the first 24 bits.
+-- The set bits of the first 24 are those of the first three rows, which have eight bits each.
 pub rows_count : (d : ℕ) →
     count_ones (d % 2 ^ 24) ≡ count_ones (bit_and d 0xFF) + count_ones (bit_and (d / 2 ^ 8) 0xFF) + count_ones (bit_and (d / 2 ^ 16) 0xFF)
 rows_count d =

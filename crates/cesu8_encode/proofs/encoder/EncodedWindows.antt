@@ -49,7 +49,7 @@ encoded_bytes_drop f text i n le = rw (take_all (length text - (i - 2)) (drop (i
 
 -- ---- the first bytes of a block
 
--- Packing has a byte for each element, and one more for each that passes.
+-- Packing gives a byte for each element, and one more for each that passes the test t.
 length_written : (t : ℕ → Bool) (g h : ℕ → ℕ) (vs : List ℕ) →
     length (flat_map (λ v. cond (t v) (g v ∷ h v ∷ []) (h v ∷ [])) vs) ≡ length vs + count_ones (mask_l (map t vs))
 unfolding lib.Count.ones
@@ -138,7 +138,7 @@ encoded_bytes_first f text near zeros m n le is =
     first (suc zero) l = refl
     first (suc (suc k)) l = padded near _ (zeros_left zeros m) k ∙ ap (λ xs. get_or xs k 0) is ∙ get_or-take 33 text k 0 (omega arith)
 
--- A text of at most a block: what is written for it, followed by zeros, is its encoding.
+-- What is written for a text of at most a block, from a window that ends in zeros, is its encoding.
 pub encoded_short : (f : Flavor) (bytes text near : List ℕ) → near ≡ bytes ++ drop (length bytes) (replicate 33 0) →
     bytes ≡ text → IsUtf8 text → length text ≤ 32 →
     encoded_bytes f (0 ∷ 0 ∷ (near ++ [])) 0 (length bytes) ≡ encoding f (chars text)
@@ -167,8 +167,7 @@ encoded_bytes_window f text at n all =
     encoded_bytes_agree f window text 0 at 32
     (λ k l. ap (λ i. get_or window i 0) (zero-add k) ∙ get_or-take n (drop at text) k 0 (omega arith) ∙ get_or-drop at text k 0)
 
--- What is written for n bytes and then for m fits if what is written for at least as many bytes
--- does.
+-- What is written for n bytes and then for m fits if what is written for at least n + m bytes does.
 pub room_for_parts : (f : Flavor) (window : List ℕ) (i n m whole : ℕ) → n + m ≤ whole →
     length (encoded_bytes f window i n) + length (encoded_bytes f window (i + n) m) ≤ length (encoded_bytes f window i whole)
 room_for_parts f window i n m whole le =
@@ -198,9 +197,9 @@ module _ (f : Flavor) (text : List ℕ) where
       take after out ≡ take end old ++ piece → piece ≡ encoded_bytes f around i n → after ≤ length out → IsWritten f text (i + n) out after
   written_after i n end after old out piece written is piece_is within = grind (arith, nat_tests, common_steps, encoded_bytes_append)
 
-  -- The rows of a block fit if at least eight bytes follow it. A row is stored as 16 bytes. The last
-  -- of the four begins after what is written for the block's first 24 bytes, and at least one byte is
-  -- written for each of the 16 bytes from there on: eight of the block, and eight after it.
+  -- The rows of a block fit if at least eight bytes follow it. A row is stored as 16 bytes. The
+  -- last of the four begins after what is written for the block's first 24 bytes, and at least one
+  -- byte is written for each of the 16 bytes from there on: eight of the block, and eight after it.
   pub rows_fit : (i end : ℕ) (out : List ℕ) → 2 ≤ i → i + 40 ≤ length text → IsWritten f text i out end →
       length (recoded f text) ≤ length out → end + length (encoded_bytes f text (i - 2) 24) + 16 ≤ length out
   rows_fit i end out le within written room =

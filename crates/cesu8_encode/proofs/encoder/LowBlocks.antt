@@ -39,7 +39,8 @@ module _ (f : Flavor) (window : List ℕ) where
   abbrev byte : ℕ → ℕ
   byte i = get_or window (i + 2) 0
 
-  -- With these bits set, the bytes are what is written last for each byte of the block.
+  -- With the highest bit of each null set, the bytes are what is written last for each byte of the
+  -- block.
   low_seconds : (i n : ℕ) → Low window i (n + 2) →
       zip2 bit_or (map byte (range_with_len i n)) (zip2 bit_and (map (λ j. mask (is_null f (byte j))) (range_with_len i n)) (replicate n 0x80))
       ≡ map (changed_at f window) (range_with_len i n)

@@ -100,8 +100,9 @@ third_offset f a b c d ha hb hc some =
 
 -- ---- what is written for one character
 
--- What is written for a character of four bytes is its surrogate pair, whose digits are w to z. The
--- bytes p and q precede the character, and `encoded` is what is written for the rest.
+-- What is written for a character of four bytes is its surrogate pair. The digits w to z are the
+-- parts of its value that the four bytes other than ED hold. The bytes p and q precede the
+-- character, and `encoded` is what is written for the rest.
 pair_written : (f : Flavor) (c w x y z p q : ℕ) (rest encoded : List ℕ) → IsPair c w x y z → p < 0xF0 → q < 0xF0 →
     ((p q : ℕ) → p < 0xF0 → q < 0xF0 → written f p q rest ≡ encoded) →
     written f p q ((0xF0 + (w + 1) / 4) ∷ (0x80 + ((w + 1) % 4 * 0x10 + x / 4)) ∷ (0x80 + (x % 4 * 0x10 + y)) ∷ (0x80 + z) ∷ rest)

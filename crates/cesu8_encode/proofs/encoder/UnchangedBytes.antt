@@ -1,4 +1,4 @@
--- Blocks that are unchanged, because none of their bytes changes, nor one of the two before, for
+-- A block is unchanged if none of its bytes changes, nor one of the two before it. This is for
 -- `is_unchanged` of src/blocks.rt. The block at offset i of a window begins with byte i + 2.
 use Rattle.std.proofs.lemmas.Bool.Decides.{nat_tests}
 use Rattle.std.proofs.lemmas.Grind.{common_steps}

@@ -37,8 +37,8 @@ length_encoding f (c ∷ text) is_text =
       length_encoding f text is_text.1,
     )
 
--- For a string in std: the length of its encoding as a sum over its bytes, which is at most twice
--- its length.
+-- For a string in std, the length of the encoding is a sum over the string's bytes, and at most
+-- twice their number.
 pub record LengthByBytes (f : Flavor) (text bytes : List ℕ) : Type 0 where
   pub sum : length bytes + sum_by (growth_of f) bytes ≡ length (encoding f (chars text))
   pub bound : length (encoding f (chars text)) ≤ 2 * length bytes

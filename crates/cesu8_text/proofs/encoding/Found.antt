@@ -46,8 +46,8 @@ unfolding encoding form units_of utf8_of
 found_two f bytes long low high continuation =
     begins_with f bytes 2 2 (two_byte_value (get_or bytes 0 0) (get_or bytes 1 0)) (grind (arith, nat_tests))
 
--- A lead byte of three and two continuation bytes are a character if it needs three bytes and is no
--- surrogate.
+-- A lead byte of three and two continuation bytes are a character if their value needs three bytes
+-- and is no surrogate.
 pub found_three : (f : Flavor) (bytes : List ℕ) → 3 ≤ length bytes → 0xE0 ≤ get_or bytes 0 0 → get_or bytes 0 0 < 0xF0 →
     IsContinuation (get_or bytes 1 0) → IsContinuation (get_or bytes 2 0) →
     (get_or bytes 0 0 ≡ 0xE0 → 0xA0 ≤ get_or bytes 1 0) → (get_or bytes 0 0 ≡ 0xED → get_or bytes 1 0 < 0xA0) →

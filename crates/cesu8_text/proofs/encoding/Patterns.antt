@@ -8,7 +8,8 @@ use Rattle.cesu8_text.proofs.text.Shapes.{IsTwo, IsThree, IsPair, Shape, one, tw
 use Rattle.cesu8_text.proofs.encoding.Forms.{encoding_one, encoding_two, encoding_three, encoding_pair, short_form_null, short_form_other}
 
 -- The bytes begin with the pattern of the encoded character c, one case for each length, and one
--- for C0 80. Three bytes are never a surrogate: after ED (x is 0D), the second byte is below A0.
+-- for C0 80. The digits w to z are the parts of c that single bytes have (`Shapes`). Three bytes
+-- are never a surrogate: after ED (x is 0D), the second byte is below A0.
 pub data Pattern (f : Flavor) (bytes : List ℕ) (c : ℕ) : Type 0 where
   of_one : get_or bytes 0 0 ≡ c → c < 0x80 → (f ≡ Mutf8 → 0 < c) → Pattern f bytes c
   of_null : f ≡ Mutf8 → c ≡ 0 → get_or bytes 0 0 ≡ 0xC0 → get_or bytes 1 0 ≡ 0x80 → 2 ≤ length bytes → Pattern f bytes c

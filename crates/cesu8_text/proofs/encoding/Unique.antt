@@ -47,7 +47,7 @@ after_text f (c ∷ text) (d ∷ whole) rest is_text whole_is_text same =
       append_assoc,
     ))
 
--- Bytes that begin with no character have no strict reading, unless there are none.
+-- If there are bytes and no character begins them, they have no strict reading.
 none_reads : (f : Flavor) (rest : List ℕ) → 0 < length rest → NoneBegins f rest → HasNoStrictReading f rest
 none_reads f rest some none_begins [] reads = grind (arith, encoding_nil)
 none_reads f rest some none_begins (c ∷ text) reads = grind (arith, encoding_cons)

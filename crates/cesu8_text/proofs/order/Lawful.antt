@@ -22,7 +22,7 @@ round_trip_law = grind (arith, encoding_injective)
 pub chars_are_text_law : CharsAreText
 chars_are_text_law string is_utf8 = (IsUtf8Of_chars string is_utf8).0
 
--- The UTF-8 of its characters is the string.
+-- The UTF-8 of a string's characters is the string.
 pub chars_in_utf8_law : CharsInUtf8
 chars_in_utf8_law string is_utf8 = (IsUtf8Of_chars string is_utf8).1
 
@@ -70,7 +70,7 @@ read_again_law f bytes = reading_encoding f (reading f bytes) (reading_is_text f
 pub lossy_is_strict_law : LossyIsStrict
 lossy_is_strict_law f bytes text reads = grind (arith, reading_encoding)
 
--- The four length bounds.
+-- The four bounds on lengths: of an encoding, a strict reading, a cutting and the lossy reading.
 pub bounds_law : Bounds
 bounds_law = (grind (arith, length_bounds), grind (arith, length_bounds), cutting_length, reading_length)
 

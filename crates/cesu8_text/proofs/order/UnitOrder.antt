@@ -1,5 +1,6 @@
--- If a format writes a text character by character and keeps the order of characters, texts compare
--- as their code units do. CESU-8 is such a format, and MUTF-8 is one for texts without U+0000.
+-- If a format writes a text character by character and keeps the order of characters, what it
+-- writes for texts compares as their code units do. CESU-8 is such a format, and MUTF-8 is one for
+-- texts without U+0000.
 use Rattle.std.proofs.Common.{◌≡◌, ◌≢◌, ℕ, ◌<◌, ◌≤◌, ◌⊎◌, List, [], ◌∷◌, ◌++◌, ap, inl, arith}
 use Rattle.std.specs.List.{All, flat_map}
 use Rattle.std.proofs.lemmas.List.Elements.{All-head, All-tail}

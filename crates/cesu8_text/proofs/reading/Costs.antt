@@ -40,7 +40,9 @@ after f (suc n) (Replaced b ∷ pieces) are_pieces long none_begins =
     let more = after f n pieces are_pieces.1 (omega arith) (λ j before. none_begins (suc j) (omega arith)) in
     record { left = more.left; cuts = more.cuts; costs = omega (arith, more.costs) }
 
--- Every cutting of the same bytes as a greedy one is equal to it or costs more.
+-- Every cutting of the same bytes as a greedy one is equal to it or costs more. If it replaces the
+-- first byte of a character that the greedy one keeps, it replaces all bytes of that character,
+-- since no character begins inside another.
 least : (f : Flavor) (greedy other : List Piece) → ArePieces greedy → IsGreedy f greedy → IsCutting f (bytes_of f greedy) other →
     (other ≡ greedy) ⊎ (cost greedy < cost other)
 least f [] other are_pieces is_greedy cuts = inl (no_pieces f other cuts.0 (ap length cuts.1))
@@ -89,7 +91,7 @@ cost_by_text f [] = grind (arith, encoding_nil)
 cost_by_text f (piece ∷ pieces) =
     grind (arith, width_of_replacement, encoding_cons, length-append, cost_by_text f pieces)
 
--- A cutting whose text is the lossy reading is greedy.
+-- A cutting whose text is the lossy reading is greedy, since it costs as much as the greedy one.
 pub greedy_by_text : (f : Flavor) (bytes : List ℕ) (pieces : List Piece) → IsCutting f bytes pieces →
     text_of pieces ≡ reading f bytes → IsGreedy f pieces
 greedy_by_text f bytes pieces cuts reads =

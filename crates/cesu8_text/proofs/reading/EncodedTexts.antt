@@ -14,8 +14,8 @@ begins_text : (f : Flavor) (c : ℕ) (text rest : List ℕ) → IsText (c ∷ te
     BeginsWith f (encoding f (c ∷ text) ++ rest) c (encoding f text ++ rest)
 begins_text f c text rest is_text = grind (arith, encoding_cons f c text, append_assoc)
 
--- The lossy reading of an encoded text and more bytes is the text, followed by the reading of
--- these.
+-- The lossy reading of an encoded text and more bytes is the text, followed by the reading of the
+-- other bytes.
 pub reading_text : (f : Flavor) (text rest : List ℕ) → IsText text → reading f (encoding f text ++ rest) ≡ text ++ reading f rest
 reading_text f [] rest is_text = rw encoding_nil
 reading_text f (c ∷ text) rest is_text =

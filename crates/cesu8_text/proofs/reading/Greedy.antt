@@ -6,7 +6,7 @@ use Rattle.cesu8_text.specs.Cutting.{Piece, ArePieces, bytes_of, text_of, IsGree
 use Rattle.cesu8_text.specs.Laws.{Places}
 use Rattle.cesu8_text.proofs.reading.Steps.{reading_nil, reading_character, reading_replaced}
 
--- By induction over the pieces.
+-- The text of greedy pieces is the lossy reading of their bytes, by induction over the pieces.
 greedy_reading : (f : Flavor) (pieces : List Piece) → ArePieces pieces → IsGreedy f pieces →
     text_of pieces ≡ reading f (bytes_of f pieces)
 greedy_reading f [] are_pieces is_greedy = sym (reading_nil f)

@@ -17,7 +17,7 @@ pub strict_only : (f : Flavor) (bytes text other : List ℕ) → IsStrictReading
 strict_only f bytes text other reads also =
     encoding_injective f other text also.0 reads.0 (also.1 ∙ sym reads.1)
 
--- In strict mode, UTF-8 in which nothing changes decodes to its own characters.
+-- In the mode for the encoding alone, UTF-8 in which nothing changes decodes to its own characters.
 pub encoding_texts : (f : Flavor) (bytes : List ℕ) →
     KnowsTexts f bytes (IsUnchangedUtf8 f bytes) (IsStrictReading f bytes) (λ text. text ≡ reading f bytes)
 encoding_texts f bytes = record {

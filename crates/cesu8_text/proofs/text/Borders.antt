@@ -6,7 +6,7 @@ use Rattle.cesu8_text.specs.Text.{utf8_of, utf8}
 use Rattle.cesu8_text.specs.Utf16.{units_of}
 use Rattle.cesu8_text.specs.Encoding.{Cesu8, Mutf8, form, encoding}
 
--- What one scalar value is in the three encodings.
+-- The scalar value c is encoded as these bytes in UTF-8, in CESU-8 and in MUTF-8.
 abbrev IsWritten : ℕ → List ℕ → List ℕ → List ℕ → Type 0
 IsWritten c utf cesu mutf =
     (utf8 (c ∷ []) ≡ utf) × (encoding Cesu8 (c ∷ []) ≡ cesu) × (encoding Mutf8 (c ∷ []) ≡ mutf)

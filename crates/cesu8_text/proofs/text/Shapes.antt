@@ -1,7 +1,7 @@
 -- The UTF-8 of one scalar value, with its digits as variables. A digit is the part of the value
--- that one byte of its encoding has. In a surrogate pair, these are the four bytes that are not ED.
--- The first digit of a pair, w, is one less than the value's bits from bit 16 on (`IsPair`), so
--- `utf8_of_pair` has w + 1.
+-- that one byte of its encoding has. In a surrogate pair, the four bytes that are not ED have one
+-- each: w, x, y and z. The first, w, is one less than the value's bits from bit 16 on (`IsPair`),
+-- so `utf8_of_pair` has w + 1.
 use Rattle.std.proofs.lemmas.Bool.Decides.{nat_tests}
 use Rattle.std.proofs.Common.{◌≡◌, ℕ, ◌+◌, ◌-◌, ◌*◌, ◌/◌, ◌%◌, ◌<◌, ◌≤◌, ◌⊎◌, [], ◌∷◌, inl, inr, arith}
 use Rattle.std.proofs.lemmas.Bool.{cases_lt}

@@ -1,5 +1,6 @@
--- The prover proves this goal by itself too. But if an edit of must-fail makes the goal false, the
--- prover's own search meets a limit instead of showing that.
+-- The two bytes that are pushed first are the count of the form (`counts`). The prover proves this
+-- goal by itself too. But if an edit of must-fail makes the goal false, the prover's own search
+-- meets a limit instead of showing that.
 use Rattle.std.proofs.Common.{arith, rules, ◌∙◌}
 use Rattle.std.specs.Str.{chars}
 use Rattle.std.proofs.lemmas.Grind.{common_steps}

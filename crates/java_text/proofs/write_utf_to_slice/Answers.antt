@@ -17,6 +17,8 @@ returns-then-buf-lt2 c =
     form_misfits text c.args.buf.now c.args.buf.now c.encoded_len.result c.misfit.result c.encoded_len.ensures
     (λ _. omega (arith, length_of_form text)) c.misfit.ensures.too_long c.misfit.ensures.too_short refl
 
+-- The MUTF-8 fits the part of `room` bytes after the count (`inside`, `loaded`), and `room` is at
+-- most 65,535. So the text has a form, and this form fits the buffer.
 pub returns-in-Ok : goal.returns-in-Ok
 returns-in-Ok c =
     let text = chars c.args.text.now in
@@ -31,6 +33,8 @@ returns-in-Ok c =
     (c.copy_from_slice.ensures.after ∙ c.to_be_bytes.ensures
     ∙ count_of c.in-Ok.length (mutf8_len text) written.written.0 (omega (arith, loaded, inside, c.min-end.ensures))))
 
+-- The MUTF-8 is longer than that part (`longer`). If the text has a form, the MUTF-8 has at most
+-- 65,535 bytes, so the part ends with the buffer, and the form is longer than the buffer.
 pub returns-in-Err : goal.returns-in-Err
 returns-in-Err c =
     let text = chars c.args.text.now in

@@ -1,5 +1,5 @@
 //! Characters that change, and damage, near the borders of blocks and windows, compared with the
-//! plain decoder.
+//! plain decoder. They are put into a fill: a few bytes that are repeated.
 
 use crate::asserts::{assert_readings, inserted};
 use crate::decoding::rows::ROWS;
@@ -112,7 +112,7 @@ fn reads_each_byte_among_nulls_and_two_widths(rt: HostRuntime) {
     assert_bytes(&rt, rt.alloc(), FILLS[5]);
 }
 
-/// The bytes `put` at each offset of a block of 64, at the end of the input and before more of it.
+/// The bytes `put` at each of the first 64 offsets, at the end of the input and before more of it.
 fn assert_at_offsets(rt: &impl Abort, alloc: Global, put: &[u8]) {
     for place in 0..64usize {
         let places = place..place.saturating_add(1);

@@ -1,4 +1,5 @@
-//! Decoding to buffers of about the needed length, compared with the plain decoder.
+//! Decoding to buffers of about the needed length, compared with the plain decoder. Long input is a
+//! fill, a few bytes that are repeated, and other bytes among it.
 
 use crate::asserts::{assert_same, inserted};
 use std::alloc::Global;

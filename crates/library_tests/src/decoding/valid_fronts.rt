@@ -1,4 +1,5 @@
-//! The longest valid prefix, near the borders of blocks, compared with the plain decoder.
+//! The longest valid prefix, near the borders of blocks, compared with the plain decoder. Damage is
+//! put into a fill: a few bytes that are repeated.
 
 use crate::asserts::{assert_of, inserted};
 use std::alloc::Global;

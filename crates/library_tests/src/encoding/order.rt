@@ -156,8 +156,8 @@ fn assert_ends(rt: &impl Abort, alloc: Global, front: &str, len: usize) {
     }
 }
 
-/// Compares all pairs of the ends, after equal prefixes of up to 20 characters. The call compares
-/// several bytes at a time, and the strings differ at each offset of such a group.
+/// Compares all pairs of the ends, after equal prefixes of up to 20 characters. `compare_as_utf16`
+/// compares several bytes at a time, and the strings differ at each offset of such a group.
 #[test]
 fn compares_behind_equal_fronts(rt: HostRuntime) {
     for len in 0..21 {

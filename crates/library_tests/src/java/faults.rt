@@ -13,7 +13,7 @@ fn copied_to_write(alloc: Global, bytes: &[u8]) -> Result<Vec<u8>, WriteFault> {
     Ok(copy)
 }
 
-/// Like `copied_to_write`, but `?` turns it into the error of a call that reads.
+/// Like `copied_to_write`, but `?` turns a failed allocation into the error of a call that reads.
 fn copied_to_read(alloc: Global, bytes: &[u8]) -> Result<Vec<u8>, ReadFault> {
     let mut copy = Vec::with_capacity(alloc, 1)?;
     for byte in bytes {

@@ -1,5 +1,5 @@
 //! Characters in each encoding, and the calls `decode_strict` and `encode` of `cesu8_stream` for
-//! both encodings, with the call as an argument. The bytes are written by hand, from the tables of
+//! both encodings, as values of the type `Call`. The bytes are written by hand, from the tables of
 //! UTR 26, of Java's `DataInput` and of RFC 3629.
 
 use cesu8_stream::{Progress, mutf8};

@@ -1,4 +1,5 @@
-//! Two characters: every cut into two pieces, and a buffer of every size up to more than is needed.
+//! Tests `decode_strict` and `encode` of `cesu8_stream` on two characters: on every beginning of
+//! their bytes, and with a buffer of every size up to more than is needed.
 
 use crate::asserts::assert_of;
 use crate::stream::calls::{CALLS, CHARACTERS, Call, joined};
@@ -6,7 +7,8 @@ use cesu8_stream::{Progress, State};
 use std::alloc::Global;
 use std::process::Abort;
 
-/// Two characters as a call reads and writes them, and how many bytes of these the first one takes.
+/// Two characters as a call reads them (`input`) and writes them (`output`), and how many bytes the
+/// first one has in the input (`read`) and in the output (`written`).
 #[derive(Drop)]
 struct Pair {
     input: Vec<u8>,
@@ -15,7 +17,7 @@ struct Pair {
     written: usize,
 }
 
-/// Two characters as a call reads and writes them.
+/// Makes the pair of two characters, each of which is given in CESU-8, in MUTF-8 and in UTF-8.
 fn pair_of(
     rt: &impl Abort,
     alloc: Global,
@@ -31,7 +33,8 @@ fn pair_of(
     }
 }
 
-/// Whether a call reads the whole characters before a cut of two characters, and nothing else.
+/// Whether a call that gets only the bytes before `cut` reads the whole characters among them, and
+/// nothing else.
 fn is_cut(call: Call, pair: &Pair, cut: usize) -> bool {
     let bytes = pair.input.as_slice();
     let (read, written) = if cut < pair.read {
@@ -101,7 +104,7 @@ fn assert_sizes(rt: &impl Abort, call: Call, pair: &Pair) {
     }
 }
 
-/// Tests a character before each of the table.
+/// Tests a character followed by each of `CHARACTERS`.
 fn assert_before_each(rt: &impl Abort, alloc: Global, call: Call, first: &[&[u8]; 3]) {
     for second in &CHARACTERS {
         let pair = pair_of(rt, alloc, call, first, second);

@@ -9,11 +9,12 @@ use std::alloc::{AllocError, Global};
 use std::process::Abort;
 use test_cases::fills::{joined, repeated};
 
-/// The length of a call's buffer. A window is at least five bytes shorter than a third of it, so it
-/// has at most 95 bytes.
+/// The length of a call's buffer. A window has at most a third of this length, less five bytes: 95
+/// bytes.
 const ROOM: usize = 300;
 
-/// How many letters come first: the end of the first window is before, in or after what follows.
+/// How many letters precede the bytes to test. So the end of the first window, which has at most 95
+/// bytes, is before, in or after these.
 const FRONTS: std::ops::Range<usize> = 84..101;
 
 /// Returns a damaged byte, `count` letters, the bytes and as many letters again. If all of it were

@@ -72,8 +72,8 @@ impl Append for Vec<u8> {
     }
 }
 
-/// The part of a slice in a range, which a proof has shown to be in bounds. The index operator would
-/// add its source location, and a panic with the range in its message, at each use.
+/// The part of a slice in a range, which a proof has shown to be in bounds. The index operator
+/// would add its source location, and a panic with the range in its message, at each use.
 pub trait Part {
     fn part<R: SliceIndex<[u8], Output = [u8]>>(&self, range: R) -> &[u8];
     fn part_mut<R: SliceIndex<[u8], Output = [u8]>>(&mut self, range: R) -> &mut [u8];

@@ -666,8 +666,9 @@ macro_rules! positions {
 }
 pub(crate) use positions;
 
-/// Where 16 lanes of a shuffle's result come from, those from `16 * PART` on. The two input vectors
-/// in a row are divided into parts of at most 16 lanes, at most four.
+/// Where 16 lanes of a shuffle's result come from, those from `16 * PART` on. The result has `M`
+/// lanes, and each of the two input vectors `N`. The inputs in a row are divided into at most four
+/// parts, of `PART_LANES` lanes each.
 struct Plan<P, const N: usize, const M: usize, const PART: usize>(PhantomData<P>);
 
 impl<P: Positions<M>, const N: usize, const M: usize, const PART: usize> Plan<P, N, M, PART> {
@@ -683,7 +684,7 @@ impl<P: Positions<M>, const N: usize, const M: usize, const PART: usize> Plan<P,
         position
     }
 
-    /// Whether the positions are consecutive.
+    /// Whether the positions are consecutive, in inputs of at least 16 lanes.
     const IS_RUN: bool = {
         let (mut is_run, mut i) = (N >= 16, 1);
         while i < 16 {

@@ -1,7 +1,8 @@
-//! The calls of one level, with Rust's types and without an allocator.
+//! The calls of one level, with Rust's types and without an allocator. `by_level!` (`level.rs`)
+//! chooses the level that a public call uses.
 //!
-//! No function here has a type parameter, so that the codec is compiled once, in this crate, and
-//! not in its users'.
+//! The functions in `of_cesu8`, in `of_mutf8` and at the end have no type parameter, so that the
+//! codec is compiled once, in this crate, and not in its users'.
 
 use alloc::borrow::Cow;
 use alloc::vec::Vec;
@@ -84,7 +85,8 @@ fn encode_into<F: Flavor>(text: &str, buf: &mut Vec<u8>) {
 /// The most bytes that are decoded on the stack.
 const FEW: usize = 64;
 
-/// The mode that accepts the encoding alone, for bytes that are known not to be short ASCII.
+/// The mode that accepts the encoding alone, without a fast path for ASCII: the public call has
+/// already tested up to 64 bytes for it (`short.rs`).
 struct Tested;
 
 impl Accepts for Tested {
@@ -164,7 +166,8 @@ fn strict_other<F: Flavor>(
                 front: UnchangedPrefix,
                 is_lenient: bool,
             ) -> Result<Cow<'_, str>, DecodingError> {
-                // `changed` is 0 for more than 64 bytes, and also if a byte is ill-formed.
+                // `changed` is 0 for more than 64 bytes, and also if a byte is ill-formed. If it is
+                // not 0, there is a surrogate pair or C0 80, so the bytes are not UTF-8.
                 if front.changed != 0 {
                     return strict_few::<F>(bytes, front);
                 }
@@ -240,8 +243,8 @@ fn too_short(fault: TooShort) -> SliceError {
     SliceError::TooShort { needed: fault.needed() }
 }
 
-/// Decodes bytes that are not short ASCII, and writes the text to a slice. The lenient calls to a
-/// slice are not here: `short.rs` makes them of the strict and the lossy one.
+/// Decodes the encoding, strictly or lossily, and writes the text to a slice. The lenient calls to
+/// a slice are not here: `short.rs` makes them of the strict and the lossy one.
 #[cfg_attr(not(debug_assertions), inline(always))]
 fn to_slice<F: Flavor, S: Reading>(bytes: &[u8], buf: &mut [u8]) -> SliceResult {
     match decode_to_slice::<F, Tested, S>(bytes, buf) {

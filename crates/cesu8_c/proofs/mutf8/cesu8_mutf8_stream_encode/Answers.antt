@@ -1,5 +1,6 @@
 -- The contract of `cesu8_stream::mutf8::encode`, with a status in place of the state. A character
--- has at most 6 bytes in MUTF-8. `NOT_UTF8` is one of the statuses 1 to 5.
+-- has at most 6 bytes in MUTF-8. `NOT_UTF8`, the status for `Malformed`, is from 1 to 5, as the
+-- lemma requires: the other states have the statuses 0, 6 and 7.
 use Rattle.std.proofs.Common.{arith}
 use Rattle.simd_cesu8.specs.Text.{utf8}
 use Rattle.simd_cesu8.specs.Encoding.{Mutf8, encoding}

@@ -1,5 +1,6 @@
--- The prover finds these goals by itself. But if an edit of must-fail makes one of them false, that
--- search meets a limit instead of showing that it is false.
+-- If no bytes follow the Java string, the output is right, and otherwise the error `Trailing` is.
+-- The prover proves these goals by itself. But if an edit of must-fail makes one of them false, the
+-- prover's search meets a limit instead of showing that.
 use Rattle.std.proofs.Common.{◌≡◌, ◌∙◌, [], Err, inr, sym, subst, rules}
 use Rattle.std.proofs.lemmas.Bool.{eqb-true}
 use Rattle.std.proofs.lemmas.List.{nil_from_length}

@@ -1,4 +1,5 @@
--- Each read continues after the bytes that were read before.
+-- Each read continues after the bytes that were read before. `omega` proves that the vector still
+-- has fewer than 2^63 bytes, as the code has tested.
 use Rattle.std.proofs.Common.{ℕ, List, ◌++◌, Some, None, sym, ap, ◌∙◌, append_assoc, arith, length-take}
 use Rattle.std.specs.Prelude.{Option}
 use Rattle.std.specs.Io.KnownBytes.{Consumes}

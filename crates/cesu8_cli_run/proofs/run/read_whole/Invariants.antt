@@ -1,5 +1,5 @@
 -- So far `bytes` are what was read from the input. The loop ends since `bytes` become longer, and a
--- vector has less than 2^63 bytes.
+-- vector has fewer than 2^63 bytes.
 use Rattle.std.proofs.Common.{◌-◌, ◌^◌, ◌<◌, vec_len}
 use Rattle.std.specs.Io.KnownBytes.{Consumes}
 use Rattle.cesu8_cli_run.proofs.run.read_whole.Given as goal

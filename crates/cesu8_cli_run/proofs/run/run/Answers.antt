@@ -1,4 +1,4 @@
--- The prover finds these goals by itself. The search given here fails sooner if an edit of
+-- The prover proves these goals by itself. The search given here fails sooner if an edit of
 -- must-fail makes one of them false.
 use Rattle.std.proofs.Common.{rules}
 use Rattle.cesu8_cli_run.proofs.run.run.Goals as goal

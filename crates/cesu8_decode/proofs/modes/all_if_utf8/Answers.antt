@@ -8,7 +8,8 @@ use Rattle.cesu8_decode.proofs.chunks.Utf8Parts.{after_utf8}
 use Rattle.cesu8_decode.proofs.modes.all_if_utf8.Goals as goal
 use Rattle.cesu8_decode.proofs.modes.all_if_utf8.Goals.{then-are_short, else-are_short}
 
--- From the start or from the end of a prefix that is UTF-8, the bytes are UTF-8 exactly if all are.
+-- If a prefix is UTF-8 and `start` is 0 or its end, the bytes from `start` on are UTF-8 exactly if
+-- all bytes are.
 from_either : (bytes : List ℕ) (n start : ℕ) → n ≤ length bytes → IsUtf8 (take n bytes) → (start ≡ 0) ⊎ (start ≡ n) → IsUtf8 (drop start bytes) ↔ IsUtf8 bytes
 from_either bytes n start within prefix (inl first) = subst (λ k. IsUtf8 (drop k bytes) ↔ IsUtf8 bytes) (sym first) (λ is. is, λ is. is)
 from_either bytes n start within prefix (inr end) = subst (λ k. IsUtf8 (drop k bytes) ↔ IsUtf8 bytes) (sym end) (after_utf8 bytes n within prefix)

@@ -1,5 +1,5 @@
--- In a set without surrogate pairs a character that is cut off begins in the last two bytes. If it
--- does, the prefix ends before it (`cut_at`), and otherwise at `at` (`none_cut`).
+-- In a set without surrogate pairs a character that is cut off begins in the last two bytes. If
+-- there is one, the prefix ends before it (`cut_at`), and otherwise at `at` (`none_cut`).
 use Rattle.std.proofs.Common.{◌≡◌, ℕ, ◌+◌, ◌-◌, ◌<◌, ◌≤◌, eqb, ⊎_elim, List, true, false, ◌∙◌, sym, ap, get_or, arith, refl}
 use Rattle.std.proofs.lemmas.Bool.{agree_below_at, cases_eq, cases_lt, eqb-true, lt-leb}
 use Rattle.cesu8_text.specs.Encoding.{Flavor}

@@ -1,6 +1,6 @@
 -- If the prefix is all bytes, the mode returns its input, which is then its own text. Otherwise the
--- texts of the mode are the readings of the encoding, and what is promised for these is promised
--- for those (`same_reading`).
+-- texts of the mode are the readings of the encoding, so `put_strictly` and `put_lossily` promise
+-- what is promised here (`same_reading`).
 use Rattle.std.proofs.Common.{◌∙◌, sym, arith}
 use Rattle.cesu8_decode.proofs.chunks.ModeTexts.{known_texts}
 use Rattle.cesu8_decode.proofs.chunks.SliceReadings.{kept_put, same_reading, same_fault}

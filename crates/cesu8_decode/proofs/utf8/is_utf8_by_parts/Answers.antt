@@ -1,6 +1,6 @@
 -- In UTF-8 `part_end` returns a character boundary, so the input is UTF-8 exactly when the first
--- part and the rest are (`both_parts`). One proof for each return: the first part is not UTF-8, the
--- rest is ASCII, or the rest is tested part by part.
+-- part and the rest are (`both_parts`). One proof for each return of more than 32 bytes: the first
+-- part is not UTF-8, the rest is ASCII, or the rest is tested part by part.
 use Rattle.std.proofs.Common.{[], refl, sym, true≢false}
 use Rattle.std.proofs.lemmas.Bool.{both_ways}
 use Rattle.std.proofs.lemmas.List.{take_rest}

@@ -1,6 +1,7 @@
 //! Writes the text of a window in which many bytes are C0 80, and which has no other event.
 //!
 //! C0 becomes 00 and 80 is dropped, so shuffles pack the bytes by eights, with no branch on a byte.
+//! No byte of the window is ill-formed, so each C0 in it begins C0 80.
 
 ghost use Rattle.std.specs.Prelude.{◌≡◌, ◌+◌, ◌≤◌, ◌==◌, if◌then◌else◌, length, map};
 ghost use Rattle.cesu8_decode.specs.Decoding.{WritesWindow};

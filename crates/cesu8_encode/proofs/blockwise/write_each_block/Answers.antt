@@ -1,5 +1,6 @@
--- After each block its encoding is appended, so one block more is written. It fits, since the whole
--- encoding does, and its rows fit, since eight bytes follow the blocks.
+-- After each block its encoding is appended, so one block more is written. By `same`, it does not
+-- depend on the zeros around the text. It fits, since the whole encoding does, and its rows fit,
+-- since eight bytes follow the blocks.
 use Rattle.std.proofs.Common.{◌≡◌, ◌+◌, ◌*◌, subst, ◌∙◌, arith}
 use Rattle.cesu8_encode.specs.EncodedOffsets.{IsWritten}
 use Rattle.cesu8_encode.proofs.encoder.EncodedWindows.{encoded_bytes_here, room_after, rows_fit, written_after}

@@ -1,5 +1,6 @@
 -- The window has two zeros, the first block and the byte after it. What `write_block` writes for
--- its block is what is written for the first 32 bytes of the whole text.
+-- its block is what is written for the first 32 bytes of the whole text. It fits, since what is
+-- written for the whole text does (`room_for_parts`).
 use Rattle.std.proofs.Common.{◌-◌, ◌∷◌, ap, ◌∙◌, arith, length}
 use Rattle.cesu8_encode.proofs.encoder.EncodedWindows.{encoded_bytes_first, room_for_parts}
 use Rattle.cesu8_encode.proofs.blockwise.write_first_block.Goals as goal

@@ -1,4 +1,5 @@
--- A window with the last bytes of the text and zeros after them gives what the whole text gives.
+-- A window with the last bytes of the text and zeros after them gives what the whole text gives
+-- (`same`). It fits after what is written before, since what is written for the whole text does.
 use Rattle.std.proofs.Common.{◌≡◌, ◌+◌, ◌-◌, subst, arith, length}
 use Rattle.cesu8_encode.specs.EncodedOffsets.{IsWritten}
 use Rattle.cesu8_encode.proofs.encoder.EncodedWindows.{encoded_bytes_last, room_after, written_after}

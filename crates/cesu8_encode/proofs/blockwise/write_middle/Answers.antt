@@ -1,6 +1,6 @@
 -- If fewer than eight bytes follow the last of the middle blocks, it is encoded alone, from a
 -- window of the text: the block, two bytes before it and one after it, which are 35. Here `i` is
--- the offset of that block.
+-- the offset of that block. What is written for it fits, since the whole encoding does.
 use Rattle.std.proofs.Common.{◌≡◌, ◌+◌, ◌-◌, ◌*◌, ◌/◌, ◌∙◌, subst, arith, length}
 use Rattle.cesu8_encode.specs.EncodedOffsets.{IsWritten}
 use Rattle.cesu8_encode.proofs.encoder.EncodedWindows.{encoded_bytes_here, encoded_bytes_window, room_after, written_after}

@@ -1,6 +1,6 @@
--- Each round goes on from what was taken so far. One proof for each way in which the loop ends. The
--- three that return `Limit` are for buffers that are too small, and for cases that never occur, as
--- the comments in convert.rt say.
+-- Each round goes on from what was taken so far. There is a proof for each way to return. The three
+-- that return `Limit` are for buffers that are too small, and for cases that never occur, as the
+-- comments in convert.rt say.
 use Rattle.std.proofs.Common.{[], false, take, ap, arith}
 use Rattle.cesu8conv_run.proofs.Streams.{nothing-so-far, some-so-far, output-so-far, damage-so-far}
 use Rattle.cesu8conv_run.proofs.convert.convert.Goals as goal

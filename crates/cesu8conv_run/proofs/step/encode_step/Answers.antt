@@ -1,4 +1,5 @@
--- A call of `cesu8_stream` is a step of the conversion. An encoded character has at most 6 bytes.
+-- A call of `cesu8_stream` is a step of the conversion. The 6 is the most bytes of an encoded
+-- character, which the contract of `encode` names.
 use Rattle.std.proofs.Common.{refl}
 use Rattle.simd_cesu8.specs.Text.{utf8}
 use Rattle.simd_cesu8.specs.Encoding.{encoding}

@@ -1,6 +1,6 @@
 -- `front_step` decodes the bytes before the next byte that only UTF-8 has. That is a step of
--- the mixed conversion, of input that is UTF-8 in some parts and the encoding in others. A
--- character has at most 4 bytes in UTF-8.
+-- the mixed conversion, of input that is UTF-8 in some parts and the encoding in others. The 4 is
+-- the most bytes of a character in UTF-8, which the contract of `decode` names.
 use Rattle.cesu8conv_run.proofs.Steps.{front-step}
 use Rattle.cesu8conv_run.proofs.step.front_step.Goals as goal
 

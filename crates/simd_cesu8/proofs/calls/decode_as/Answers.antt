@@ -1,6 +1,8 @@
--- Three results: the input is borrowed because the mode keeps it, the decoded text is owned, or
--- decoding fails. The lemma `known_texts` says what a mode keeps and reads. An owned text is never
--- the UTF-8 of the input: otherwise the input would have been borrowed.
+-- There are three results: the input is borrowed because the mode keeps it (`returns-in_default`),
+-- the decoded text is owned (`returns`), or decoding fails (`returns-in_err-built`). The lemma
+-- `known_texts` says what a mode keeps and reads. The UTF-8 of an owned text is never the input:
+-- otherwise the input would have been borrowed. If decoding fails, the input has no strict reading,
+-- and so none in its mode either (`unread`), which does not keep it.
 use Rattle.std.proofs.Common.{ℕ, List, rules, ap, sym}
 use Rattle.std.specs.Str.{chars}
 use Rattle.std.specs.String.{string_bytes}

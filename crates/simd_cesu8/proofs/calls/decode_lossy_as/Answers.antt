@@ -1,6 +1,7 @@
--- Two results: the input is borrowed because the mode keeps it, or the decoded text is owned. The
--- lemma `known_texts` says what a mode keeps and reads. An owned text is never the UTF-8 of the
--- input: otherwise the input would have been borrowed.
+-- There are two results: the input is borrowed because the mode keeps it (`returns-in_default`), or
+-- the decoded text is owned (`returns`). The lemma `known_texts` says what a mode keeps and reads.
+-- The UTF-8 of an owned text is never the input: otherwise the input would have been borrowed.
+-- `exact` is the premise of `text_length`: the input has no other text than its lossy reading.
 use Rattle.std.proofs.Common.{rules, ap, sym, subst}
 use Rattle.std.specs.Str.{chars, IsUtf8}
 use Rattle.std.specs.String.{string_bytes}

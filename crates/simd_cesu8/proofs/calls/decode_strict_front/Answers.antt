@@ -1,5 +1,6 @@
--- The fast path borrows ASCII that is unchanged, which is its own strict reading. Otherwise the
--- call decodes the first bytes: `len` of them, or all, as `take_min` says.
+-- The contract is about `take len bytes`, and the code decodes the first `min(len, bytes.len())`
+-- bytes: by `take_min` these are equal. The fast path borrows ASCII that is unchanged, which is its
+-- own strict reading.
 use Rattle.std.proofs.Common.{rules, take}
 use Rattle.std.proofs.lemmas.List.{take_min}
 use Rattle.std.proofs.lemmas.Str.{IsUtf8-from_ascii}

@@ -1,4 +1,5 @@
--- The stored vector has the string in its first lanes, and the buffer's own bytes in the others.
+-- The bytes that pass the test are unchanged ASCII, which is UTF-8. The stored vector has them in
+-- its first lanes, and the buffer's own bytes in the others.
 use Rattle.std.proofs.Common.{◌∙◌, refl, sym, ap, take, arith}
 use Rattle.std.proofs.lemmas.List.{length-take-le}
 use Rattle.std.proofs.lemmas.Str.{IsUtf8-from_ascii}

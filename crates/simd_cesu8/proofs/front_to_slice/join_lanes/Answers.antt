@@ -1,4 +1,4 @@
--- Lane i is compared with `len`, so the first `len` lanes are selected from `first`.
+-- The number of each lane is compared with `len`, so the first `len` lanes are those of `first`.
 use Rattle.simd_cesu8.proofs.Lanes.{first_lanes}
 use Rattle.simd_cesu8.proofs.front_to_slice.join_lanes.Goals as goal
 

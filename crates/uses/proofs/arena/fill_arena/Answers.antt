@@ -1,5 +1,5 @@
--- Each step writes one encoding after the others (`one_more`). If it does not fit, `missing` is what
--- `encode_to_slice` needs less what is left in the arena (`next_missing`).
+-- Each step writes one encoding after the others (`one_more`). If it does not fit, `missing` is the
+-- length that `encode_to_slice` returns minus what is left in the arena (`next_missing`).
 use Rattle.std.proofs.Common.{◌<◌, ◌∙◌, length, arith}
 use Rattle.uses.proofs.FilledArena.{none_yet, one_more, next_missing}
 use Rattle.uses.proofs.arena.fill_arena.Goals as goal

@@ -1,10 +1,12 @@
 -- The piece is decoded to zeros appended to the text, which is then truncated after what was
 -- written. The bytes that were not read move to the start of `bytes`. So no byte is lost, and none
--- is read twice.
+-- is read twice. In both answers, `left` shows that just these bytes are left.
 use Rattle.std.proofs.Common.{◌≡◌, ◌+◌, ◌∙◌, ◌++◌, ℕ, sym, ap, arith, length, take, length-take, length-drop}
 use Rattle.uses.proofs.ReadPieces.{moved, left_says, written_inside, grown_prefix, written_after, rest_moved}
 use Rattle.uses.proofs.pieces.append_piece.Goals as goal
 
+-- `grown` is the text with the zeros, and `after` shows what is appended to the text. The long
+-- `omega` proves that what was written ends within `grown`.
 pub returns-clause-moves : goal.returns-clause-moves
 returns-clause-moves c =
     let call = c.decode_strict-progress in
@@ -26,6 +28,7 @@ returns-clause-moves c =
     ∙ ap (λ bs. bs ++ take call.result.written call.new.buf) front in
     moved bytes c.truncate-2.new.self.items before c.truncate.new.self.items _ _ call.result piece left after
 
+-- The long `omega` proves that the buffer, which is the zeros, is as long as the bytes.
 pub returns-clause-state : goal.returns-clause-state
 returns-clause-state c =
     let call = c.decode_strict-progress in

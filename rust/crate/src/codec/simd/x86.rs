@@ -2,8 +2,8 @@
 //!
 //! Each function is inlined into one that has the features of its level (`at_level!`), and that
 //! runs only on a processor which has them: `SAFETY: the level has the instruction.` means this.
-//! Level v2 has no vectors of 32 bytes. With debug assertions the functions are not always inlined,
-//! since a debug build would then take minutes.
+//! Level v2 has no vectors of 32 bytes. Functions are always inlined only without debug assertions,
+//! since otherwise a debug build would take minutes.
 #![allow(unused_unsafe)] // Later compilers call some of these without `unsafe`.
 
 use core::arch::x86_64::*;

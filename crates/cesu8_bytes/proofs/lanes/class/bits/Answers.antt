@@ -1,4 +1,4 @@
--- Bit i of the result is lane i of the mask, so it is set exactly if byte i is in the class.
+-- Bit i of the result is lane i of the mask, so it is set if and only if byte i is in the class.
 use Rattle.cesu8_bytes.proofs.lists.Classes.{bits_of_marks}
 use Rattle.cesu8_bytes.proofs.lanes.class.bits.Goals as goal
 

@@ -1,4 +1,5 @@
--- The bits of the mask are the tests of the lanes. They are not 0 exactly if some lane passes.
+-- The bits of the mask are the tests of the lanes. So the mask is not 0 if and only if some lane
+-- passes.
 use Rattle.cesu8_bytes.proofs.lists.Lanes.{any_passes}
 use Rattle.cesu8_bytes.proofs.lists.Classes.{bits_of_marks}
 use Rattle.cesu8_bytes.proofs.lanes.class.has.Goals as goal

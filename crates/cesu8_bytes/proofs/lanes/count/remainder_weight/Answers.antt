@@ -1,5 +1,6 @@
 -- The weights of the first vectors, of 64 bytes each, and of the next one are together those of one
--- vector more. No class of `CountsOne` has a lead byte of four. So a byte weighs at most two, and the
+-- vector more. After the loop, those of the vectors and of the bytes that are left are those of all
+-- bytes. No class of `CountsOne` has a lead byte of four. So a byte weighs at most two, and the
 -- sums do not overflow.
 use Rattle.std.proofs.Common.{◌+◌, ◌*◌, arith}
 use Rattle.std.proofs.lemmas.Grind.{common_steps}

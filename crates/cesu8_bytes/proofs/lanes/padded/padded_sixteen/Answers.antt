@@ -7,7 +7,7 @@ use Rattle.cesu8_bytes.specs.Padded.{ends_of}
 use Rattle.cesu8_bytes.specs.declared.lanes.padded.TheConstants.{IN_ENDS}
 use Rattle.cesu8_bytes.proofs.lanes.padded.padded_sixteen.Goals as goal
 
--- The shuffle of the row for their number puts the bytes in order.
+-- The row for the number of the bytes puts them in order, and zeros after them.
 in_order : (bytes : List ℕ) → length bytes < 16 → swz_l w8 16 (ends_of bytes) 0 (get_or IN_ENDS (length bytes) []) ≡ bytes ++ replicate (16 - length bytes) 0
 in_order [] few = refl
 in_order (a ∷ []) few = refl

@@ -1,5 +1,5 @@
 -- Each vector extends the copied prefix by 64 bytes. The last vector ends with the bytes, and it
--- begins in the prefix that was copied already.
+-- begins in the prefix that was copied already, or right after it.
 use Rattle.std.proofs.Common.{◌≡◌, ◌∙◌, ◌+◌, ◌-◌, ◌≤◌, ◌++◌, sym, ap, arith, length, take, take_all, drop, length-drop}
 use Rattle.std.proofs.Math.Seq.{take-add}
 use Rattle.std.proofs.lemmas.Bool.{iff_false}

@@ -1,5 +1,5 @@
--- Storing all lanes of a row writes those that it keeps, and then bytes that the next store
--- overwrites. The last number of a row is how many lanes it keeps, which is at most eight.
+-- Storing all lanes of a row writes those that it keeps, and after them bytes that do not matter.
+-- The last number of a row is how many lanes it keeps, which is at most eight.
 use Rattle.std.proofs.Common.{arith}
 use Rattle.cesu8_bytes.proofs.vectors.Packing.{at_most_eight, end_of_row, row_written}
 use Rattle.cesu8_bytes.proofs.writing.packing.store_eight.Goals as goal

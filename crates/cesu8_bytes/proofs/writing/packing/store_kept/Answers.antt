@@ -1,5 +1,6 @@
--- Four rows of eight bytes are the 32 bytes, so what the four stores keep is what is kept of them.
--- Each half of the 32 bytes is two rows, and `second_of` moves the second to the first lanes.
+-- Each of four stores packs eight of the 32 bytes, so together they write what is kept of all. Each
+-- half of the 32 bytes is packed by two stores, and for the second one, `second_of` moves the last
+-- eight bytes to the first lanes.
 use Rattle.std.proofs.Common.{ℕ, ◌+◌, ◌≤◌, ◌++◌, ap, ◌∙◌, subst, arith}
 use lib.Lanes.{chunk, pick_l}
 use Rattle.std.specs.List.{range_with_len}

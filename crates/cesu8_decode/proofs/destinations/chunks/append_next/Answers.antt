@@ -7,7 +7,8 @@ use Rattle.std.proofs.Math.Seq.{take-append-add, take-append_seam}
 use Rattle.std.proofs.lemmas.List.{length-replicate, length-take-le, take-append-le, take-take, take_rest}
 use Rattle.cesu8_decode.proofs.destinations.chunks.append_next.Goals as goal
 
--- What is written after a prefix is unchanged by a truncation at its end.
+-- A truncation to `len` bytes keeps the prefix and the first `end` bytes of `new`, since these end
+-- at `len` or before it.
 written_after : (start end len : ℕ) (prefix new other more : List ℕ) → length prefix ≡ start → end ≤ length new → start + end ≤ len →
     take (start + end) (take len ((prefix ++ (new ++ other)) ++ more)) ≡ prefix ++ take end new
 written_after start end len prefix new other more long inside fits =
@@ -83,6 +84,7 @@ write_windows-pass-requires-2-clause-room g c =
       c.if-spare-lt-SMALL_STRICT.false,
     ))
 
+-- The text ends within these zeros, so its end is no greater than the capacity.
 pub overflow_add-start : goal.overflow_add-start
 overflow_add-start g c =
     let more = c.write_windows-pass-2.ensures.more in

@@ -1,6 +1,6 @@
 -- One proof for each return but `NoText`. If no byte is ill-formed, the lossy reading is the strict
--- one, which is never longer than the input. So in strict mode a slice as long as the input is long
--- enough. In every other case the length of the slice is compared with the counted one.
+-- one, which is never longer than the input. So in strict decoding a slice as long as the input is
+-- long enough. In every other case the length of the slice is compared with the counted one.
 use Rattle.std.proofs.Common.{◌≡◌, ◌<◌, ◌^◌, rules, arith}
 use Rattle.cesu8_text.specs.Reading.{IsStrictReading, reading, lossy_length}
 use Rattle.cesu8_bytes.specs.declared.strictness.Strictness.TheVariants.{Strict}

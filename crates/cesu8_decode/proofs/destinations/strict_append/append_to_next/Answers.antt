@@ -80,6 +80,8 @@ slice_bounds-result-start g c =
     let same : IsPrefixOf rest first = rw take_rest at c.first_eight-first.ensures.prefix in
     simp take_rest (null_within f rest first same (changed_null f first (c.changes.ensures.0 c.if-not-changes.false) c.if-first.true))
 
+-- The capacity suffices: after the prefix the input has at least the six bytes of the pair, which
+-- become four bytes of UTF-8.
 pub append-requires-2 : goal.append-requires-2
 append-requires-2 g c =
     let f = g.F.Flavor.flavor in

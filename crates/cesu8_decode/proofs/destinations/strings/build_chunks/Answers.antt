@@ -1,5 +1,5 @@
 -- The first part is decoded to an array, and the length of the text of the rest is counted. One
--- string of both lengths is allocated, and gets the array's text and then that of the rest. No
+-- vector of both lengths is allocated, and gets the array's text and then that of the rest. No
 -- character extends from the first part into the rest (`apart`), so the two texts make up the
 -- reading.
 use Rattle.std.proofs.Common.{◌≡◌, ◌+◌, ◌<◌, ◌^◌, ◌∙◌, sym, subst, ap, arith, [], ◌++◌, length, take, IfSome}

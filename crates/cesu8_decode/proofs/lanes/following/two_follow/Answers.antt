@@ -1,5 +1,6 @@
 -- If all bytes are unchanged ASCII, and so are the four before them, each can follow. Otherwise the
--- error masks of both blocks are tested at once: their bits are clear only if both have none.
+-- error masks of both blocks are combined by `|`, which marks a lane if one of them does. If no
+-- lane is marked, neither block has an error.
 use Rattle.std.proofs.Common.{◌≡◌, ◌+◌, ◌-◌, ◌∙◌, ap, arith, length, map, sym, subst}
 use Rattle.std.proofs.lemmas.Bool.{eqb-true}
 use lib.Lanes.{chunk}

@@ -1,7 +1,7 @@
--- The window ends where the last character that begins in its first `count` bytes ends. `rest` is
--- how many bytes of that character come after them: the ones in the mask of covered bytes from bit
--- `count` on, and none if `count` is the number of lanes. `alike` says that the lanes are the bytes
--- at `at`, and `boundary` that a character boundary is there.
+-- The window ends with its first `count` bytes, or with a character that begins in them and ends
+-- later. `rest` is how many bytes of that character come after them: as many bits in a row are set
+-- in the mask of covered bytes from bit `count` on, and none if `count` is 64 (`LANES`). `alike`
+-- says that the lanes are the bytes at `at`, and `boundary` that a character boundary is there.
 use Rattle.std.proofs.Common.{◌≤◌, length, ◌∙◌, sym, subst, arith}
 use Rattle.cesu8_decode.proofs.decoder.WindowMasks.{Ends, window_is, by_ones, no_ends}
 use Rattle.cesu8_decode.proofs.lanes.windows.window_of_lanes.Goals as goal

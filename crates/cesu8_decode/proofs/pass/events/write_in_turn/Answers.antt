@@ -1,4 +1,4 @@
--- The loop's state holds before the first event, after a run of ill-formed bytes, and after a
+-- The loop's invariant holds before the first event, after a run of ill-formed bytes, and after a
 -- character that needs conversion. When no event is left, the rest of the window is copied.
 use Rattle.std.proofs.Common.{◌+◌, ◌∙◌, sym, arith}
 use Rattle.std.specs.Int.{trailing_zeros, w64}

@@ -1,4 +1,5 @@
--- A pass that reads all bytes from the first on has written their text.
+-- The buffer has space for the text of all bytes, so a pass that rejects none reads them all, and
+-- has then written their text.
 use Rattle.std.proofs.Common.{[], refl, arith}
 use Rattle.cesu8_decode.specs.DecodedOffsets.{window_of}
 use Rattle.cesu8_decode.proofs.decoder.WrittenWindows.{none_decoded}

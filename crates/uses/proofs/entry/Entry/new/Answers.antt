@@ -1,5 +1,5 @@
--- A new entry has the empty name, whose encoding has no bytes. By `none` these have no strict
--- reading, but the empty text is one.
+-- A new entry has the empty name, whose encoding has no bytes. These have a strict reading, the
+-- empty text. The argument `none` is the assumption that they have none.
 use Rattle.std.proofs.Common.{[], refl}
 use Rattle.std.specs.Str.{chars}
 use Rattle.simd_cesu8.specs.Encoding.{encoding}

@@ -1,5 +1,5 @@
--- For the bytes of the window each round writes their text. For each byte after the window, up to
--- the 64th, one byte is stored. The function subtracts their number from the end.
+-- Each round writes the text of those of its 16 bytes that are in the window. For each byte after
+-- the window, up to the 64th, one byte is stored. The function subtracts the number of these.
 use Rattle.std.proofs.Common.{arith, refl}
 use Rattle.cesu8_decode.proofs.decoder.PackedLanes.{none_stored, stored_most, stored_after, stored_text}
 use Rattle.cesu8_decode.proofs.decoder.EventsPacked.{replaced_packed, half_stored}
@@ -8,6 +8,8 @@ use Rattle.cesu8_decode.proofs.pass.events.replaced.write_replaced.Goals as goal
 pub loop-written-init : goal.loop-written-init
 loop-written-init g c = none_stored 16 c.args.end c.args.out.now (replaced_packed c.requires.window c.requires.replaced.0 c.requires.replaced.1) refl
 
+-- At most three bytes were stored for each of the first `written`, so the buffer has space for the
+-- next.
 pub store_replaced-end-requires : goal.store_replaced-end-requires
 store_replaced-end-requires g c =
     let stored = c.loop-written.invariant in
