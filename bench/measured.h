@@ -9,7 +9,8 @@
 #include <stdint.h>
 
 // The result of a call. If there is none although the input is valid, an allocation failed, the
-// buffer is too short, or the length of a lossy reading does not fit size_t.
+// buffer is too short, or the length of a lossy reading does not fit size_t. A call on many texts
+// has other reasons, which `outcome_of_sum` in crates/measured lists.
 struct measured_outcome {
     size_t length;    // The length of the result in bytes, or 0 if there is none.
     bool has_answer;  // Whether there is a result.

@@ -196,7 +196,8 @@ class Objects(unittest.TestCase):
                 string = _native.write_utf(text)
                 reversed_view = memoryview(string[::-1])[::-1]
                 column = memoryview(string).cast("B", [len(string), 1])
-                # Only data with items of several bytes that are not contiguous is copied whole.
+                # Data is copied whole only if it is not contiguous and its elements, those that `len`
+                # counts, have several bytes.
                 items = (string[at : at + 2].ljust(2) + b"--" for at in range(0, len(string), 2))
                 spread = memoryview(b"".join(items)).cast("H")[::2]
                 for data in (string, bytearray(string), reversed_view, column, spread):

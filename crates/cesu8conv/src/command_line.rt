@@ -57,7 +57,7 @@ pub fn command_line<'a>(
         "fail-on-damage",
         "End with status 1 if bytes were replaced",
     ))?
-    .arg(flag(alloc, "quiet", "Print no messages").short('q'))?
+    .arg(flag(alloc, "quiet", "Print no messages about damage").short('q'))?
     .arg(flag(alloc, "progress", "Show progress on standard error"))
 }
 
