@@ -2,8 +2,8 @@
 // lays it out, each with its index:
 //   class_constants FILE.class
 // Each is the byte 1, then a length and as many bytes of Modified UTF-8. Java allows an unpaired
-// surrogate in a string, but then it is not a text: it is printed with U+FFFD, and its offset in the
-// file is printed to standard error. C.md shows how to append a NUL to MUTF-8, as JNI needs it.
+// surrogate in a string, but then it is not a text: the string is printed with U+FFFD in place of the
+// damage, whose offset in the file is printed to standard error.
 
 #include "cesu8.h"
 
@@ -17,7 +17,7 @@ struct file {
     size_t length, at;
 };
 
-// How many bytes follow this tag of a constant, or 0 if there is no such tag.
+// How many bytes follow this tag of a constant other than a string, or 0 if there is no such tag.
 static size_t length_of(uint8_t tag)
 {
     switch (tag) {
@@ -69,7 +69,7 @@ static size_t print_string(const struct file *file, unsigned index)
 }
 
 // Prints the strings of a class file, and returns whether its constant pool could be read to the end.
-// If not, `at` is the offset of the first byte that could not be read.
+// If not, `at` is the offset of the constant that could not be read, or 0 if it is no class file.
 static bool print_strings(struct file *file)
 {
     // The pool follows CA FE BA BE and two bytes each of the minor and the major version. Its first

@@ -28,7 +28,8 @@ pub fn run<R: Read, W: Write>(
         (W.contents output.old) (W.contents output.new)) }
     ensures end { OnOk result (IsAtEnd (R.remaining input.new)) }
 
-    // On the empty input only writing a Java string can run out of memory.
+    // On the empty input only writing a Java string can run out of memory: of all outputs, only its
+    // two bytes for the length are not empty.
     ensures empty { R.remaining input.old ≡ Some [] → result ≡ Err RunFault.Memory
         → AreWordsOf JavaWrite words.now }
 
@@ -36,7 +37,7 @@ pub fn run<R: Read, W: Write>(
     ensures usage { (result ≡ Err RunFault.Usage) ↔ AreNoCommand words.now }
     ensures unread { result ≡ Err RunFault.Usage → input.new ≡ input.old }
 
-    // An error of the input is the right one for the whole input.
+    // If the input is rejected (`IsRefusal`), that is the right result for the whole input.
     ensures refused { IfErr result (λ fault. IsRefusal fault → IfSome (R.remaining input.old)
         (λ bytes. IsAnswerTo words.now bytes (Err fault))) }
     ensures refused_end { IfErr result (λ fault.
@@ -73,7 +74,8 @@ fn read_whole<R: Read>(alloc: Global, input: &mut R) -> Result<Vec<u8>, RunFault
         if count == 0 {
             return Ok(bytes);
         }
-        // No vector can be longer, so this counts as a failed allocation.
+        // `extend_from_slice` requires that the new length fits half of `usize`, the most that a
+        // vector can have. So this counts as a failed allocation.
         if count > usize::MAX / 2 - bytes.len() {
             return Err(RunFault::Memory);
         }

@@ -1,4 +1,5 @@
--- The encoder: the lengths, the definition by offsets, and what its vectors compute.
+-- The encoder: lengths, which bytes of UTF-8 are encoded otherwise and as what, and what the vectors
+-- of the encoder compute of a block.
 pub mod EncodedLengths
 pub mod RecodedText
 pub mod UnchangedBytes

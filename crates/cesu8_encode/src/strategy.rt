@@ -2,19 +2,21 @@
 //!
 //! A string of at most a block, 32 bytes, is encoded as one block, and a longer one as several.
 //!
-//! An encoding is at most twice as long as the string. So `encode` writes the encoding of at most
-//! 128 bytes to the stack before its length is known, and copies it: counting first takes longer.
-//! At most a block goes to an array of 64 bytes, since a larger one takes longer to zero. Longer
-//! strings, and those whose encoding has a known length (`encode_into`), are encoded in place.
+//! An encoding is at most twice as long as the string. So `encode` writes the encoding of a string
+//! of at most 128 bytes to the stack before its length is known, and copies it: counting first takes
+//! longer. A string of at most a block goes to an array of 64 bytes, since a larger one takes longer
+//! to zero. Strings of more than 128 bytes, and those whose encoding has a known length
+//! (`encode_into`), are encoded in place.
 //!
-//! To a caller's slice, more than a block is counted, and encoded in place. At most a block goes
-//! through the stack: rows are stored whole, and the slice after the encoding must not change.
+//! To a caller's slice, a string of more than a block is counted, and encoded in place. A string of
+//! at most a block goes through the stack: its only block is stored as whole rows, and the slice
+//! after the encoding must not change.
 //!
 //! These strategies are tests, not an enum: computing its value cost `encode` 13 instructions.
 //!
 //! The blocks between the first and the last have bytes of the string on both sides. How these are
-//! encoded depends on the growth: how many bytes longer than the string the encoding is. The first
-//! row that applies decides:
+//! encoded depends on the growth: how many bytes longer than the string the encoding is. A null grows
+//! by one byte, and a surrogate pair by two. The first row that applies decides:
 //!
 //! | growth, in bytes                              | `Middle`        | a block is         |
 //! |-----------------------------------------------|-----------------|--------------------|
@@ -30,7 +32,7 @@
 //! string decides: if one part of it is dense with pairs, the blocks of other parts are encoded
 //! although they could be copied.
 //!
-//! | `Middle`        | is faster for                                                            |
+//! | `Middle`        | is the fastest for                                                       |
 //! |-----------------|--------------------------------------------------------------------------|
 //! | `NullChange`    | a null in 2 to 50 bytes                                                  |
 //! | `AnyChange`     | 512 bytes or more: a pair in 20 to 50 bytes, or characters of all widths |
@@ -68,7 +70,9 @@ pub fn is_for_stack(text: &str) -> bool
 /// A strategy for the blocks between the first and the last.
 #[derive(Clone, Copy)]
 pub enum Middle {
-    /// Copies a block if neither it nor the two bytes before it change. Most text has such runs.
+    /// Copies a block if neither it nor the two bytes before it change. A character of four bytes
+    /// that begins three bytes before the block changes none of the block's bytes. Most text has
+    /// long runs of bytes that do not change.
     CopyUnchanged,
     /// Encodes null characters only: no other byte changes, since none is F0 or more.
     NullChange,

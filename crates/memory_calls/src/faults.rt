@@ -7,7 +7,8 @@ use std::alloc::AllocError;
 use std::io;
 use std::io::ErrorKind;
 
-/// Prints each error, that of the result first, and whether a `DecodingError` equals itself.
+/// Prints each error, and first that of the result, from which it also takes the `DecodingError`:
+/// only a call makes one. Prints whether that equals itself. The result is one for invalid input.
 pub fn show(rt: &HostRuntime, decoded: Result<CowText<'_>, DecodeFault>) -> io::Result<()> {
     let Err(fault) = decoded else {
         return Err(ErrorKind::InvalidInput.into());

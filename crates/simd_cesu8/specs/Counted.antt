@@ -1,4 +1,5 @@
--- The content of a `CountedText`.
+-- The encoding that a `CountedText` stands for: that of its string. The type, from `counted`, also
+-- keeps the length of the encoding, and the contracts of its calls cite this definition.
 use Rattle.std.specs.Prelude.{ℕ, List}
 use Rattle.std.specs.Str.{chars}
 use Rattle.simd_cesu8.specs.Encoding.{encoding}

@@ -1,4 +1,4 @@
-//! Times the crate beside shared objects with the calls of other codecs, for run.sh:
+//! Times the crate `cesu8_rattle` beside shared objects with the calls of other codecs, for run.sh:
 //!
 //!     bench ROUNDS FILE.so..
 //!

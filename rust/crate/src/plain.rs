@@ -21,8 +21,8 @@ const PAIR: usize = 6;
 
 const REPLACEMENT: &str = "\u{FFFD}";
 
-/// Returns the offset of the first byte that is F0 or more, or, in MUTF-8, is 00; or the length if
-/// there is none. In UTF-8 a byte of F0 or more leads four bytes.
+/// Returns the offset of the first byte that is F0 or more, or in MUTF-8 also 00. If there is none,
+/// it returns the length. In UTF-8 a byte of F0 or more leads four bytes.
 fn first_changed(is_mutf8: bool, bytes: &[u8]) -> usize {
     const HIGH: u64 = 0x8080_8080_8080_8080;
     let is_changed = |byte: &u8| *byte >= 0xF0 || is_mutf8 && *byte == 0;
@@ -94,7 +94,8 @@ enum Piece<'a> {
 /// The pieces of bytes.
 struct Pieces<'a> {
     is_mutf8: bool,
-    /// The next bytes that are known to be UTF-8. The encoding may lack some of their characters.
+    /// The next bytes that are known to be UTF-8. The encoding may have other bytes for some of their
+    /// characters.
     text: &'a str,
     /// The bytes after these.
     rest: &'a [u8],
@@ -164,7 +165,7 @@ fn valid_up_to(is_mutf8: bool, bytes: &[u8]) -> usize {
 }
 
 /// Returns the length of the decoded text, with U+FFFD for each byte in no encoded character, if it
-/// fits.
+/// fits `usize`. It may not, since U+FFFD has three bytes.
 #[inline(never)]
 fn lossy_len(is_mutf8: bool, bytes: &[u8]) -> Option<usize> {
     let mut len = 0usize;
@@ -373,7 +374,8 @@ pub fn utf16_len(text: &str) -> usize {
 
 pub fn compare_as_utf16(text: &str, other: &str) -> Ordering {
     // In UTF-16 the characters of four bytes are surrogates, which are below U+E000 to U+FFFF. In
-    // UTF-8 these have the lead bytes EE and EF, whose rank is therefore above that of F0 to F4.
+    // UTF-8 the characters from U+E000 to U+FFFF have the lead bytes EE and EF, whose rank is
+    // therefore above that of F0 to F4.
     let rank = |byte: u8| if matches!(byte, 0xEE | 0xEF) { byte + 0x10 } else { byte };
     let differing = text.bytes().zip(other.bytes()).find(|(byte, other)| byte != other);
     match differing {

@@ -47,7 +47,7 @@ impl Random {
         (self.0 >> 20) % end
     }
 
-    /// Bytes of runs, of characters in each encoding, and of what belongs nowhere.
+    /// Bytes that are put together from runs, characters in each encoding, and bytes of none.
     fn bytes(&mut self) -> Vec<u8> {
         let len = [40, 90, 300, 1500, 9000][self.below(5).min(self.below(5)) as usize];
         let len = self.below(len) as usize;
@@ -109,8 +109,9 @@ fn returned_by_c(call: Call, input: &[u8], room: usize) -> (Answer, Vec<u8>) {
     (answer, buf)
 }
 
-/// Compares a call on slices with its export, in slices of enough bytes, of just enough, and of one
-/// less.
+/// Compares a call on slices with its export, in slices of more than enough bytes, of just enough,
+/// and of one less. Both are compiled from the same source, so the whole slice has to be equal, also
+/// after an error.
 fn compare(
     export: Call,
     input: &[u8],
@@ -129,8 +130,8 @@ fn compare(
     (answer.status == OK).then(|| buf[..answer.length].to_vec())
 }
 
-/// Asserts that a call that builds returns what its call on slices wrote, and borrows if and only
-/// if no byte changes.
+/// Asserts that a call returns what the call of its name with `_to_slice` wrote, and borrows if and
+/// only if no byte changes.
 fn assert_built<T: ?Sized + ToOwned + AsRef<[u8]>>(
     result: Option<Cow<T>>,
     written: &Option<Vec<u8>>,

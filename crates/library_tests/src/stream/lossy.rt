@@ -12,7 +12,7 @@ pub fn decode_lossy(is_mutf8: bool, bytes: &[u8], is_last: bool, buf: &mut [u8])
 }
 
 /// Whether this many calls of a lossy decoder with this buffer, one after another, read all bytes
-/// and write this text. Each call has to read something, or to report that there is no more.
+/// and write this text. Each call has to read something, or to report that all input is read.
 pub fn is_read((is_mutf8, calls): (bool, u8), bytes: &[u8], text: &[u8], buf: &mut [u8]) -> bool {
     let (mut rest, mut due) = (bytes, text);
     for _ in 0..calls {

@@ -1,6 +1,8 @@
--- Each row is packed by its eight bits of the mask, and four rows after one another are the packed
--- block. The encoding of the first `count` bytes is a prefix of it. Its length is `count`, and one
--- more for each bit that is set among the first `count` of the mask.
+-- The four rows of a block, eight bytes each, are stored after one another. Each is packed by its
+-- eight bits of the mask `doubled`: a byte whose bit is set becomes two, its lane of `firsts` and that
+-- of `seconds`, and any other byte becomes its lane of `seconds`. So the rows together are the packed
+-- block. The encoding of the first `count` bytes is a prefix of it, whose length is `count`, and one
+-- more for each bit that is set among the first `count` of `doubled` (the last `omega`).
 --
 -- Each row is stored as 16 bytes. The last begins after what is written for the block's first 24
 -- bytes, and the contract requires space for 16 more.

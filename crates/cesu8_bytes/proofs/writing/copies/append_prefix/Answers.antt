@@ -1,5 +1,6 @@
--- If `len` is at most 64, the vector appends the first 64 bytes, and truncating keeps the first
--- `len` of them.
+-- If `len` is at most 64, the vector appends the first 64 bytes, of which there are at least as many,
+-- from offset 0 on. Truncating keeps the first `len` of them. If `len` is more, `append` promises what
+-- is to be shown.
 use Rattle.std.proofs.Common.{◌≡◌, ◌+◌, ◌++◌, ◌∙◌, ap, arith, length, take, append-nil, sym, rules}
 use Rattle.std.proofs.Math.Seq.{take-append-add}
 use Rattle.std.proofs.lemmas.List.{take-take, length-take-le}

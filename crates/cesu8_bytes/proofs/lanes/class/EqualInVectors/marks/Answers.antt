@@ -1,4 +1,4 @@
--- A lane is marked by the comparison `byte == BYTE`, which is the class.
+-- A lane is marked if its byte equals `BYTE`, which is the only byte of the class.
 use Rattle.cesu8_bytes.proofs.lists.Classes.{equal_marks}
 use Rattle.cesu8_bytes.proofs.lanes.class.EqualInVectors.marks.Goals as goal
 
