@@ -3,7 +3,6 @@
 //! Decoding first finds how many bytes at the start are the same in UTF-8. A call borrows if these
 //! are all bytes, and otherwise decodes the rest. The mode is a type parameter: `EncodingAlone`
 //! accepts only the encoding, and `Lenient` also UTF-8 as a whole, which it borrows too.
-//! `decode_strict_front` has a fast path for short ASCII, with one vector.
 
 ghost use Rattle.std.specs.Prelude.{◌↔◌, IsTrue, take};
 ghost use Rattle.std.specs.Str.{chars};
@@ -33,8 +32,7 @@ pub fn encode<F: Flavor>(alloc: Global, value: &str) -> Result<CowBytes<'_>, All
     Ok(CowBytes::Owned(encoded))
 }
 
-/// Returns whether the encoding differs from the UTF-8. It is not inlined, so that `encode` is
-/// small enough for its callers to inline.
+/// Calls `needs_encoded` out of line, to keep `encode` small enough for its callers to inline.
 #[inline(never)]
 fn is_changed<F: Flavor>(value: &str) -> bool
     ensures { IsTrue result ↔ NeedsEncoding F.flavor (chars value.now) }
@@ -58,8 +56,8 @@ pub fn decode_as<F: Flavor, A: Accepts>(
     Ok(CowText::Owned(built))
 }
 
-/// Decodes the first `len` bytes strictly, or all bytes if there are fewer. The fast path loads a
-/// vector that may include bytes after them.
+/// Decodes the first `len` bytes strictly, or all bytes if there are fewer. The fast path, for
+/// short ASCII, loads a vector that may include bytes after them.
 #[inline(always)]
 pub fn decode_strict_front<F: Flavor>(
     alloc: Global,

@@ -1,6 +1,5 @@
 //! All that this crate uses of the crates below it, for both flavors, except the kernels in
-//! `implementation`. Those crates have errors of their own. The functions here return the errors of
-//! this crate instead.
+//! `implementation`. The functions here turn the errors of those crates into errors of this crate.
 
 ghost use Rattle.std.specs.Prelude.{◌≡◌, length, IfOk};
 ghost use Rattle.std.specs.Str.{chars};
@@ -33,9 +32,8 @@ pub use cesu8_decode::{decode_lossy, decoded_len, lossy_len};
 pub use cesu8_encode::{encode, encode_into};
 use std::alloc::Global;
 
-/// Decodes the bytes strictly, with one allocation of their length. `front` is their unchanged
-/// prefix, the longest one of whole characters that are the same in UTF-8. It must be shorter than
-/// the input.
+/// Decodes the bytes strictly, with one allocation of their length. `front` is their longest prefix
+/// of whole characters that are the same in UTF-8. It must be shorter than the input.
 #[inline(always)]
 pub fn decode_strict<F: Flavor>(
     alloc: Global,

@@ -50,9 +50,8 @@ impl<'a> CountedText<'a> {
         self.len
     }
 
-    /// Appends the encoding to the buffer, as the function `encode_into` does. If the capacity is
-    /// too small, it allocates once, before it writes. It returns `AllocError` if that fails, and
-    /// leaves the buffer unchanged.
+    /// Appends the encoding, as the function `encode_into` does. If the capacity is too small, it
+    /// allocates once, before it writes, or returns `AllocError` and leaves the buffer unchanged.
     ///
     /// ```rust
     /// let mut buf = Vec::new(alloc);

@@ -45,9 +45,8 @@ impl<'a> CowBytes<'a> {
 
     /// Returns the bytes as a `Vec`: the one that was built, or a copy of the borrowed bytes.
     ///
-    /// A copy allocates its length in bytes, once, or nothing if that is 0. The call returns
-    /// `AllocError` if that fails; the caller still has the input that was borrowed. Bytes that
-    /// were built are returned without an allocation.
+    /// Only a copy allocates: its length in bytes, once, or nothing if that is 0. The call returns
+    /// `AllocError` if that fails; the caller still has the input that was borrowed.
     ///
     /// ```rust
     /// let bytes = simd_cesu8::encode(alloc, "\u{205}")?.into_vec(alloc)?;
@@ -106,9 +105,8 @@ impl<'a> CowText<'a> {
 
     /// Returns the text as a `String`: the one that was built, or a copy of the borrowed text.
     ///
-    /// A copy allocates the text's length in bytes, once, or nothing if that is 0. The call returns
-    /// `AllocError` if that fails; the caller still has the input that was borrowed. Text that was
-    /// built is returned without an allocation.
+    /// Only a copy allocates: its length in bytes, once, or nothing if that is 0. The call returns
+    /// `AllocError` if that fails; the caller still has the input that was borrowed.
     ///
     /// ```rust
     /// let text = simd_cesu8::decode_strict(alloc, b"a")?.into_string(alloc)?;

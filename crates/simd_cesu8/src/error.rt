@@ -8,9 +8,8 @@ use std::alloc::AllocError;
 use std::error::Error;
 use std::fmt::{self, Debug, Display, Formatter};
 
-/// The input decodes to no text. The error has neither a position nor a reason.
-///
-/// It displays as `invalid input`, and as `DecodingError` with `{:?}`, whatever width is given.
+/// The input decodes to no text. The error has neither a position nor a reason. It displays as
+/// `invalid input`, and as `DecodingError` with `{:?}`, whatever width is given.
 ///
 /// ```rust
 /// use simd_cesu8::DecodeFault;
@@ -54,9 +53,8 @@ impl Display for DecodingError {
 
 impl Error for DecodingError {}
 
-/// Why a call that decodes returns no text.
-///
-/// It displays as `invalid input` or `out of memory`, whatever width is given.
+/// Why a call that decodes returns no text. It displays as `invalid input` or `out of memory`,
+/// whatever width is given.
 ///
 /// ```rust
 /// use simd_cesu8::DecodeFault;
@@ -90,9 +88,8 @@ impl Display for DecodeFault {
 
 impl Error for DecodeFault {}
 
-/// The caller's buffer is shorter than the result. The error holds the result's length.
-///
-/// It displays as `buffer too short`, whatever width is given.
+/// The caller's buffer is shorter than the result. The error holds the result's length. It displays
+/// as `buffer too short`, whatever width is given.
 ///
 /// ```rust
 /// let mut buf = [0; 5];
@@ -132,9 +129,8 @@ impl Display for TooShort {
 
 impl Error for TooShort {}
 
-/// Why a call that decodes writes no text to the caller's buffer.
-///
-/// It displays as `invalid input` or `buffer too short`, whatever width is given.
+/// Why a call that decodes writes no text to the caller's buffer. It displays as `invalid input` or
+/// `buffer too short`, whatever width is given.
 ///
 /// ```rust
 /// use simd_cesu8::DecodeSliceFault;
@@ -169,9 +165,8 @@ impl Display for DecodeSliceFault {
 
 impl Error for DecodeSliceFault {}
 
-/// Why a call that decodes bytes that may be damaged writes no text to the caller's buffer.
-///
-/// It displays as `text is too long` or `buffer too short`, whatever width is given.
+/// Why a call that decodes bytes that may be damaged writes no text to the caller's buffer. It
+/// displays as `text is too long` or `buffer too short`, whatever width is given.
 ///
 /// ```rust
 /// use simd_cesu8::LossySliceFault;

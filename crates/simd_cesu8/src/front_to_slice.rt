@@ -3,8 +3,7 @@
 //!
 //! The fast path loads 64 bytes of the input as one vector. If the string's bytes in it are
 //! unchanged ASCII, it replaces the first `len` lanes of the buffer's first 64 bytes by them, and
-//! stores these 64 bytes. The rest of the buffer is unchanged. The only branch on the length is
-//! whether it is at most 64.
+//! stores these 64 bytes. The only branch on the length is whether it is at most 64.
 
 ghost use Rattle.std.specs.Prelude.{◌≡◌, ◌++◌, ◌≤◌, false, IsTrue, length, take, drop};
 ghost use Rattle.simd_cesu8.specs.Class.{IsUnchangedUtf8};
@@ -18,7 +17,6 @@ use std::simd::prelude::*;
 /// The length of a vector, in bytes.
 const LANES: usize = 64;
 
-/// The number of each lane.
 const NUMBERS: [u8; LANES] = [
     0, 1, 2, 3, 4, 5, 6, 7, 8, 9, 10, 11, 12, 13, 14, 15, 16, 17, 18, 19, 20, 21, 22, 23, 24, 25,
     26, 27, 28, 29, 30, 31, 32, 33, 34, 35, 36, 37, 38, 39, 40, 41, 42, 43, 44, 45, 46, 47, 48, 49,
@@ -41,8 +39,7 @@ pub fn decode_strict_front_to_slice<F: Flavor>(
     decode_by_call::<F>(&bytes[..len], buf)
 }
 
-/// Fast path: if one vector shows that the first `len` bytes are unchanged ASCII, and the buffer
-/// has at least 64 bytes, copies them to the start of the buffer and returns true.
+/// Fast path: copies up to 64 bytes of unchanged ASCII, if input and buffer have at least 64 bytes.
 #[inline(always)]
 fn copy_unchanged_ascii<F: Flavor>(bytes: &[u8], len: usize, buf: &mut [u8]) -> bool
     ensures unchanged { IsTrue result → IsUnchangedUtf8 F.flavor (take len bytes.now) }

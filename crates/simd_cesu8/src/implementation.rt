@@ -1,6 +1,5 @@
 //! Functions that only the other crates of this repository use: the kernels, which test whether a
-//! byte of a text needs conversion, the test for UTF-8, and a call that decodes one of several
-//! consecutive strings to a caller's buffer. These names may change.
+//! byte of a text needs conversion, and the two functions below. These names may change.
 
 ghost use Rattle.std.specs.Prelude.{◌≡◌, IfSome, IfNone, IsUtf8, take};
 ghost use Rattle.simd_cesu8.specs.Encoding.{Mutf8};
@@ -35,12 +34,10 @@ pub fn text_of(bytes: &[u8]) -> Option<&str>
     None
 }
 
-/// Decodes a string in MUTF-8 (Java's `DataInput`, without its length) at the start of the bytes
-/// strictly, and writes the text's UTF-8 to the caller's buffer. It does for the first `len` bytes,
-/// or for all bytes if there are fewer, what `mutf8::decode_strict_to_slice` does.
-///
-/// It may read the bytes after the string, which never change the result. So its time depends less
-/// on the length of short ASCII.
+/// Decodes a string in MUTF-8 (Java's `DataInput`, without its length) from the start of the bytes
+/// to the caller's buffer, as `mutf8::decode_strict_to_slice` decodes the first `len` bytes, or all
+/// bytes if there are fewer. It may read the bytes after the string, which never change the result.
+/// So its time depends less on the length of short ASCII.
 ///
 /// ```rust
 /// use simd_cesu8::implementation::decode_mutf8_front_to_slice;

@@ -125,7 +125,6 @@ pub fn dictionary_order()
 
 /// In dictionary order, two encodings compare as the UTF-16 code units of their texts do: in CESU-8
 /// always, and in MUTF-8 if neither text has U+0000, whose encoding is greater than that of "A".
-///
 /// This differs from the order of scalar values, which is also that of UTF-8: the encoding of
 /// U+FFFF is greater than that of U+10000.
 pub fn order()

@@ -4,9 +4,8 @@
 //! character with four bytes in UTF-8 becomes a surrogate pair of three bytes each. MUTF-8 writes
 //! U+0000 as C0 80. CESU-8 is defined by Unicode Technical Report 26, MUTF-8 by Java's `DataInput`.
 //!
-//! A result borrows from the input exactly when its bytes are the input's bytes: each call says
-//! when that is. Otherwise the call allocates once. If the allocation fails, it returns
-//! `AllocError`, or `DecodeFault::Memory` if it can also return `Invalid`.
+//! A result borrows from the input exactly when its bytes are the input's bytes. Otherwise the call
+//! allocates once, and returns `AllocError` or `DecodeFault::Memory` if that fails.
 //!
 //! | you have | you want | call |
 //! |---|---|---|
@@ -32,8 +31,7 @@
 //! The root's calls are for CESU-8, and those of [`mutf8`] for MUTF-8. The UTF-16 code units are
 //! the same for both, so only the root has [`utf16_len`] and [`compare_as_utf16`].
 //!
-//! Use a strict call if the bytes have to be the encoding: a lenient call also accepts UTF-8, in
-//! which a character may have four bytes.
+//! Use a strict call if the bytes have to be the encoding: a lenient call also accepts UTF-8.
 //!
 //! ```rust
 //! assert!(rt; simd_cesu8::encode(alloc, "caf\u{E9}")?.is_borrowed());
@@ -90,8 +88,7 @@ pub fn needs_encoded(value: &str) -> bool
     codec::needs_encoded::<Cesu8Flavor>(value)
 }
 
-/// Returns the length in bytes of a string's CESU-8 (Unicode Technical Report 26). The call
-/// allocates nothing.
+/// Returns a string's byte length in CESU-8 (Unicode Technical Report 26). It allocates nothing.
 ///
 /// ```rust
 /// assert_eq!(rt; simd_cesu8::encoded_len("a\u{10FFFF}"), 7);
@@ -145,9 +142,8 @@ pub fn compare_as_utf16(text: &str, other: &str) -> Ordering
 
 /// Encodes a string as CESU-8 (Unicode Technical Report 26).
 ///
-/// The result borrows the string's bytes if they are the encoding, and then nothing is allocated.
-/// Otherwise the call allocates exactly the encoding's length in bytes, once, and returns
-/// `AllocError` if that fails.
+/// It borrows the string's bytes if they are the encoding, and then allocates nothing. Otherwise it
+/// allocates exactly the encoding's length in bytes, once, and returns `AllocError` if that fails.
 ///
 /// ```rust
 /// let borrowed = simd_cesu8::encode(alloc, "\u{205}")?;
@@ -168,10 +164,9 @@ pub fn encode(alloc: Global, value: &str) -> Result<CowBytes<'_>, AllocError>
 
 /// Appends the CESU-8 (Unicode Technical Report 26) of a string to the buffer.
 ///
-/// If the capacity is too small, the call allocates once, before it writes. The buffer then grows
-/// by a factor, as with `Vec::push`, so appending many short strings allocates rarely. If the
-/// capacity is enough, or the string is empty, nothing is allocated. The call returns `AllocError`
-/// if the allocation fails, and leaves the buffer unchanged.
+/// The call allocates only if the capacity is too small: once, before it writes. The buffer then
+/// grows by a factor, as with `Vec::push`, so appending many short strings allocates rarely. The
+/// call returns `AllocError` if the allocation fails, and leaves the buffer unchanged.
 ///
 /// ```rust
 /// let mut buf = simd_cesu8::encode(alloc, "id=")?.into_vec(alloc)?;
@@ -199,9 +194,8 @@ pub fn encode_into(value: &str, buf: &mut Vec<u8>) -> Result<(), AllocError>
 /// fails. It allocates before it decodes, so it may return `Memory` for input that is also invalid.
 ///
 /// The call returns `Invalid` if no text has these bytes as its encoding: if they are damaged, or
-/// contain an unpaired surrogate, an overlong form, or a UTF-8 form of four bytes.
-///
-/// [`decode`] also accepts UTF-8, and [`decode_lossy_strict`] accepts any bytes.
+/// contain an unpaired surrogate, an overlong form, or a UTF-8 form of four bytes. [`decode`] also
+/// accepts UTF-8, and [`decode_lossy_strict`] accepts any bytes.
 ///
 /// ```rust
 /// let built = simd_cesu8::decode_strict(alloc, b"\xED\xA0\xBD\xED\xB2\x96")?;
@@ -221,10 +215,9 @@ pub fn decode_strict(alloc: Global, bytes: &[u8]) -> Result<CowText<'_>, DecodeF
 }
 
 /// Decodes a string in CESU-8 (Unicode Technical Report 26) at the start of the bytes strictly, as
-/// [`decode_strict`] decodes the first `len` bytes, or all bytes if there are fewer.
-///
-/// Use it for strings that follow one another. It may read the bytes after the string, which never
-/// change the result. So its time depends less on the length of short ASCII.
+/// [`decode_strict`] decodes the first `len` bytes, or all bytes if there are fewer. Use it for
+/// strings that follow one another. It may read the bytes after the string, which never change the
+/// result. So its time depends less on the length of short ASCII.
 ///
 /// ```rust
 /// let bytes = b"name\xED\xA0\xBD\xED\xB2\x96".as_slice();
@@ -256,7 +249,6 @@ pub fn decode_strict_front(
 /// before it decodes, so it may return `Memory` for input that is also invalid.
 ///
 /// The call returns `Invalid` if the bytes are neither UTF-8 as a whole nor the encoding of a text.
-///
 /// [`decode_strict`] accepts only the encoding, and [`decode_lossy`] accepts any bytes.
 ///
 /// ```rust
@@ -283,9 +275,8 @@ pub fn decode(alloc: Global, bytes: &[u8]) -> Result<CowText<'_>, DecodeFault>
 ///
 /// The result borrows the bytes if they are the text's UTF-8, and then nothing is allocated.
 /// Otherwise the call allocates exactly the text's length in bytes, [`lossy_len`], once. It returns
-/// `AllocError` if that fails or if the length does not fit `usize`.
-///
-/// [`decode_strict`] returns an error for damaged bytes, and [`decode_lossy`] also accepts UTF-8.
+/// `AllocError` if that fails or if the length does not fit `usize`. [`decode_strict`] returns an
+/// error for damaged bytes, and [`decode_lossy`] also accepts UTF-8.
 ///
 /// ```rust
 /// let text = simd_cesu8::decode_lossy_strict(alloc, b"\xE2\x82A")?;
@@ -304,14 +295,12 @@ pub fn decode_lossy_strict(alloc: Global, bytes: &[u8]) -> Result<CowText<'_>, A
 }
 
 /// Decodes bytes that are UTF-8 as a whole, or else CESU-8 (Unicode Technical Report 26) that may
-/// be damaged. For the latter it returns each encoded character, and U+FFFD for each byte that is
-/// not part of one. It never decodes one part of the input as UTF-8 and another as CESU-8.
+/// be damaged. For the latter it returns each encoded character, and U+FFFD for each other byte.
 ///
 /// The result borrows bytes that are UTF-8, and then nothing is allocated. Otherwise the call
 /// allocates exactly the text's length in bytes, [`lossy_len`], once. It returns `AllocError` if
-/// that fails or if the length does not fit `usize`.
-///
-/// [`decode`] rejects damaged bytes, and [`decode_lossy_strict`] does not accept UTF-8.
+/// that fails or if the length does not fit `usize`. [`decode`] rejects damaged bytes, and
+/// [`decode_lossy_strict`] does not accept UTF-8.
 ///
 /// ```rust
 /// let text = simd_cesu8::decode_lossy(alloc, b"\xF0\x9F\x92\x96\xFF")?;
@@ -330,8 +319,7 @@ pub fn decode_lossy(alloc: Global, bytes: &[u8]) -> Result<CowText<'_>, AllocErr
 
 /// Returns the length in bytes of the text that [`decode_strict`] returns for the same bytes, which
 /// are CESU-8 (Unicode Technical Report 26). It returns `None` exactly when the bytes are the
-/// encoding of no text, so it also tests whether they are valid. The call allocates nothing.
-///
+/// encoding of no text, so it also tests whether they are valid. It allocates nothing.
 /// [`lossy_len`] returns a length for damaged bytes too.
 ///
 /// ```rust
@@ -351,8 +339,7 @@ pub fn decoded_len(bytes: &[u8]) -> Option<usize>
 /// of an encoded character counts as the three bytes of U+FFFD. The call returns `None` if the
 /// length does not fit `usize`. It allocates nothing.
 ///
-/// [`decode_lossy`] borrows bytes that are UTF-8 as a whole, so the text that it returns for them
-/// is as long as the input.
+/// [`decode_lossy`] borrows bytes that are UTF-8 as a whole, so their text is as long as the input.
 ///
 /// ```rust
 /// assert_eq!(rt; simd_cesu8::lossy_len(b"\xE2\x82A"), Some(7));
@@ -383,8 +370,7 @@ pub fn valid_up_to(bytes: &[u8]) -> usize
     ensures within { result ≤ length bytes.now }
     ensures valid { HasStrictReading Cesu8 (take result bytes.now) }
 
-    // If bytes follow the prefix, no encoded character begins there, no longer prefix has a strict
-    // reading, and the lossy reading replaces the next byte.
+    // If bytes follow the prefix, no encoded character begins there, so U+FFFD replaces the first.
     ensures stops { result < length bytes.now → NoneBegins Cesu8 (drop result bytes.now) }
     ensures greatest { (n : ℕ) → result < n → n ≤ length bytes.now
         → HasNoStrictReading Cesu8 (take n bytes.now) }
@@ -397,8 +383,7 @@ pub fn valid_up_to(bytes: &[u8]) -> usize
 ///
 /// It returns the number of bytes that it wrote to the start of the buffer, and leaves the rest
 /// unchanged. If the buffer is too short, it returns [`TooShort`] with the needed length in bytes,
-/// and leaves the whole buffer unchanged. So a call with an empty buffer returns the length. It
-/// allocates nothing.
+/// and writes nothing. So a call with an empty buffer returns the length. It allocates nothing.
 ///
 /// ```rust
 /// let mut buf = [0xEE; 8];
@@ -434,13 +419,12 @@ pub fn decode_strict_to_slice(bytes: &[u8], buf: &mut [u8]) -> Result<usize, Dec
 }
 
 /// Decodes bytes that are UTF-8 as a whole, or else CESU-8 (Unicode Technical Report 26), and
-/// writes the text's UTF-8 to the caller's buffer.
+/// writes the text's UTF-8 to the caller's buffer. The call allocates nothing.
 ///
 /// It returns the number of bytes that it wrote to the start of the buffer, and leaves the rest
-/// unchanged. It returns `Invalid` exactly when the bytes are neither UTF-8 as a whole nor the
-/// encoding of a text. It returns `TooShort`, with the needed length in bytes, exactly when the
-/// text is longer than the buffer. After an error the whole buffer is unchanged. The text is never
-/// longer than the input. The call allocates nothing.
+/// unchanged. It returns `Invalid` exactly when the bytes are neither UTF-8 nor CESU-8. It returns
+/// `TooShort`, with the needed length in bytes, exactly when the text is longer than the buffer.
+/// After an error the whole buffer is unchanged. The text is never longer than the input.
 ///
 /// ```rust
 /// let mut buf = [0xEE; 6];
@@ -455,13 +439,12 @@ pub fn decode_to_slice(bytes: &[u8], buf: &mut [u8]) -> Result<usize, DecodeSlic
 }
 
 /// Decodes CESU-8 (Unicode Technical Report 26) that may be damaged. It writes the UTF-8 of each
-/// encoded character to the caller's buffer, and U+FFFD for each byte that is not part of one.
+/// encoded character to the caller's buffer, and U+FFFD for each other byte. It allocates nothing.
 ///
 /// It returns the number of bytes that it wrote to the start of the buffer, and leaves the rest
 /// unchanged. It returns `TooShort`, with the needed length in bytes, exactly when the text is
-/// longer than the buffer. It returns `TooLong` instead if that length, [`lossy_len`], does not fit
-/// `usize`. After an error the whole buffer is unchanged. The text is at most three times as long
-/// as the input. The call allocates nothing.
+/// longer than the buffer, but `TooLong` if that length, [`lossy_len`], does not fit `usize`. After
+/// an error the whole buffer is unchanged. The text is at most three times as long as the input.
 ///
 /// ```rust
 /// let mut buf = [0xEE; 6];

@@ -2,8 +2,7 @@
 //! C0 80. So no byte of an encoding is 00. Java writes a string's length in two bytes before it.
 //! These are not part of the encoding here; the crate `java_text` reads and writes them.
 //!
-//! Each call does for MUTF-8 what the call of the same name in the crate root does for CESU-8. The
-//! documentation there says what it returns, which errors, when it borrows and what it allocates.
+//! Each call does for MUTF-8 what the call of the same name in the crate root does for CESU-8.
 //!
 //! ```rust
 //! let built = simd_cesu8::mutf8::encode(alloc, "a\0")?;
@@ -43,8 +42,7 @@ pub fn needs_encoded(value: &str) -> bool
     codec::needs_encoded::<Mutf8Flavor>(value)
 }
 
-/// Like [`crate::encoded_len`], for MUTF-8. The length does not count the two bytes that Java's
-/// `DataOutput` writes first.
+/// Like [`crate::encoded_len`], for MUTF-8. It does not count the two bytes that Java writes first.
 ///
 /// ```rust
 /// assert_eq!(rt; simd_cesu8::mutf8::encoded_len("a\0"), 3);
@@ -190,8 +188,7 @@ pub fn decode_lossy_strict(alloc: Global, bytes: &[u8]) -> Result<CowText<'_>, A
     decode_lossy_as::<Mutf8Flavor, EncodingAlone>(alloc, bytes)
 }
 
-/// Like [`crate::decode_lossy`], for bytes that are UTF-8 as a whole, or else MUTF-8 that may be
-/// damaged.
+/// Like [`crate::decode_lossy`], for bytes that are UTF-8 as a whole, or else MUTF-8.
 ///
 /// ```rust
 /// let text = simd_cesu8::mutf8::decode_lossy(alloc, b"\0\xC0\x80")?;
@@ -311,8 +308,7 @@ pub fn decode_lossy_strict_to_slice(bytes: &[u8], buf: &mut [u8]) -> Result<usiz
     codec::decode_lossy_to_slice::<Mutf8Flavor, EncodingAlone>(bytes, buf)
 }
 
-/// Like [`crate::decode_lossy_to_slice`], for bytes that are UTF-8 as a whole, or else MUTF-8 that
-/// may be damaged.
+/// Like [`crate::decode_lossy_to_slice`], for bytes that are UTF-8 as a whole, or else MUTF-8.
 ///
 /// ```rust
 /// let mut buf = [0xEE; 4];
