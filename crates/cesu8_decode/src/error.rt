@@ -3,8 +3,7 @@
 use cesu8_bytes::writing::copies::NoRoom;
 use std::alloc::AllocError;
 
-/// Why strict decoding to a `String` fails. Lossy decoding fails only
-/// if the allocation does, and returns `AllocError` itself.
+/// Why strict decoding to a `String` fails. Lossy decoding returns `AllocError` itself.
 #[derive(Drop)]
 pub enum BuildError {
     /// A byte is ill-formed.

@@ -7,11 +7,9 @@
 //!
 //! The modules, in the order in which a call uses them:
 //!
-//! - `modes`: whether a call returns its input unchanged: if it is UTF-8 (mode `Lenient`), or only
-//!   if it is UTF-8 in which nothing needs conversion (mode `EncodingAlone`)
+//! - `modes`: whether a call returns its input unchanged, which depends on its mode
 //! - `lanes`: vector code for 32 or 64 bytes, with no branch on a single byte
-//! - `prefix`: the length of the prefix of whole characters that are unchanged in UTF-8; decoding
-//!   begins with this test
+//! - `prefix`: the length of the prefix of whole characters that are unchanged in UTF-8
 //! - `valid`: the length of the prefix of whole encoded characters
 //! - `utf8`: whether bytes are UTF-8, which lenient calls test after the unchanged prefix
 //! - `lengths`: the length of the decoded text
@@ -20,8 +18,6 @@
 //! - `pass`: the decoding loop: one window for at most 64 bytes, successive windows for more
 //! - `destinations`: decoding to a `String` and to a caller's slice
 //! - `to_slice`: decoding to a caller's slice that copies unchanged input
-//!
-//! `error` has the errors.
 #![tactic(auto)]
 
 ghost use Rattle.std.specs.Prelude.{◌≡◌, ◌<◌, length, IfOk};
@@ -54,8 +50,7 @@ pub use lengths::{decoded_len, lossy_len};
 use std::alloc::{AllocError, Global};
 
 /// Returns the strictly decoded text, or an error if a byte is ill-formed or the allocation fails.
-/// Allocates once, as many bytes as the input has. `prefix` is the unchanged prefix, which is not
-/// the whole input. It is not inlined, so that a call that borrows saves no register for it.
+/// It is not inlined, so that a call that borrows saves no register for it.
 #[inline(never)]
 pub fn decode_strict<F: Flavor>(
     alloc: Global,
@@ -76,9 +71,7 @@ pub fn decode_strict<F: Flavor>(
 }
 
 /// Returns the lossily decoded text. Allocates once, exactly its length; a length over `usize` is
-/// reported as a failed allocation. `prefix` is the unchanged prefix, which is not the whole input.
-/// At most the first 4,096 bytes (`LARGEST_ARRAY`) are decoded to the stack before the allocation,
-/// so that they need no separate pass for their length. Like `decode_strict`, it is not inlined.
+/// reported as a failed allocation. Like `decode_strict`, it is not inlined.
 #[inline(never)]
 pub fn decode_lossy<F: Flavor>(
     alloc: Global,

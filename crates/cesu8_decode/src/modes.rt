@@ -29,17 +29,14 @@ pub enum Mode {
 pub trait Accepts {
     ghost mode: { AnyMode };
 
-    /// Returns the mode, as a value.
     fn mode() -> Mode
         ensures { result ≡ mode };
 
-    /// Inlined fast path: returns whether the input is short ASCII that is returned unchanged. The
-    /// module `fast_paths` defines "short".
+    /// Fast path: whether the input is short ASCII (see `fast_paths`) that is returned unchanged.
     fn is_short_kept<F: Flavor>(bytes: &[u8]) -> bool
         ensures { IsTrue result → Keeps mode F.flavor bytes.now };
 }
 
-/// The mode of calls that accept UTF-8 too.
 pub struct Lenient;
 
 impl Accepts for Lenient {
@@ -56,7 +53,6 @@ impl Accepts for Lenient {
     }
 }
 
-/// The mode of calls that accept the encoding only.
 pub struct EncodingAlone;
 
 impl Accepts for EncodingAlone {
@@ -73,8 +69,7 @@ impl Accepts for EncodingAlone {
     }
 }
 
-/// Returns `None` if mode `A` returns the input unchanged, and otherwise the unchanged prefix,
-/// which is not all of it. For at most 64 bytes it also says which characters need conversion.
+/// Returns `None` if mode `A` returns the input unchanged, and otherwise its unchanged prefix.
 #[inline(always)]
 pub fn prefix_unless_kept<F: Flavor, A: Accepts>(bytes: &[u8]) -> Option<UnchangedPrefix>
     ensures kept { IfNone result (Keeps A.mode F.flavor bytes.now) }
@@ -120,8 +115,7 @@ fn lenient_prefix<F: Flavor>(bytes: &[u8], prefix: UnchangedPrefix) -> Unchanged
     all_if_utf8(bytes, prefix)
 }
 
-/// Returns the whole input if it is UTF-8, and otherwise `prefix`, whose bytes are known to be
-/// UTF-8. It is not inlined, so that unchanged input has few registers to save.
+/// Like `lenient_prefix`. It is not inlined, so that unchanged input has few registers to save.
 #[inline(never)]
 fn all_if_utf8(bytes: &[u8], prefix: UnchangedPrefix) -> UnchangedPrefix
     requires { (prefix.len ≤ length bytes.now) × IsUtf8 (take prefix.len bytes.now) }

@@ -11,8 +11,7 @@ use cesu8_bytes::lanes::short::copy_short;
 use cesu8_bytes::pairs::{PAIR_READ, is_pair};
 
 /// Returns whether a byte can be the first one of a character that needs conversion, in either
-/// encoding: ED or C0. If another byte follows the unchanged prefix, `write_strictly` of
-/// `destinations::strings` returns the error at once.
+/// encoding. If another byte follows the unchanged prefix, `write_strictly` fails at once.
 #[inline(always)]
 pub fn may_lead_changed(byte: u8) -> bool
     ensures { (f : AnyFlavor) (bytes : List ℕ) → BeginsChanged f bytes
@@ -21,7 +20,6 @@ pub fn may_lead_changed(byte: u8) -> bool
     (byte == 0xED) | (byte == 0xC0)
 }
 
-/// Returns whether the bytes begin with a character that needs conversion.
 #[inline(always)]
 pub fn begins_changed<F: Flavor>(bytes: &[u8]) -> bool
     ensures { IsTrue result ↔ BeginsChanged F.flavor bytes.now }

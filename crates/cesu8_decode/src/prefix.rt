@@ -1,7 +1,6 @@
 //! The length of a prefix of whole characters: of all encoded characters (the valid prefix), or
-//! only of those that are unchanged in UTF-8 (the unchanged prefix). If the ASCII fast path of a
-//! call fails, the call continues with the unchanged prefix. Strict decoding of more than 64 bytes
-//! continues after it, and other decoding starts again from the first byte.
+//! only of those that are unchanged in UTF-8 (the unchanged prefix), which decoding finds first.
+//! Strict decoding of more than 64 bytes continues after it, and other decoding starts at byte 0.
 //!
 //! Vectors find the first byte that cannot follow the bytes before it (`lanes::following`). The
 //! prefix ends there, or at the last character boundary before that byte if a character is cut off.
@@ -27,7 +26,6 @@ use std::simd::prelude::*;
 pub use window::UnchangedPrefix;
 use window::prefix_by_window;
 
-/// Returns the unchanged prefix.
 #[inline(always)]
 pub fn unchanged_prefix<F: Flavor>(bytes: &[u8]) -> UnchangedPrefix
     ensures { IsUnchangedPrefix F.flavor bytes.now result }
@@ -38,9 +36,8 @@ pub fn unchanged_prefix<F: Flavor>(bytes: &[u8]) -> UnchangedPrefix
     prefix_of_more::<F>(bytes)
 }
 
-/// Like `unchanged_prefix`. It is not inlined, so that its callers are small, and returns two
-/// words, which fit in registers. More than 32 bytes take another call, so that at most 32 have few
-/// registers to save.
+/// Like `unchanged_prefix`, but not inlined, so that its callers are small. It returns two words,
+/// which fit in registers. At most 32 bytes save few registers, since more take another call.
 #[inline(never)]
 pub fn unchanged_prefix_by_call<F: Flavor>(bytes: &[u8]) -> UnchangedPrefix
     ensures { IsUnchangedPrefix F.flavor bytes.now result }
@@ -85,8 +82,7 @@ pub fn longest_prefix<F: Flavor, S: CharacterSet>(bytes: &[u8]) -> usize
 }
 
 /// Returns the offset of the first byte that cannot follow the bytes before it, or the length if
-/// there is none. The input has more than 64 bytes. It first skips whole groups of 256 bytes that
-/// are unchanged ASCII, or else tests one block.
+/// there is none. It first skips groups of 256 bytes of unchanged ASCII, or else tests one block.
 #[inline(always)]
 fn following_many<F: Flavor, S: CharacterSet>(bytes: &[u8]) -> usize
     requires { LANES < length bytes.now }
@@ -103,9 +99,8 @@ fn following_many<F: Flavor, S: CharacterSet>(bytes: &[u8]) -> usize
     following_from::<F, S>(bytes, run.max(BLOCK))
 }
 
-/// Like `following_many`, if the bytes up to `start` are known to follow each other. At least
-/// `DECIDING` bytes precede `start`, as many as a block's test needs. It tests two blocks at once,
-/// and then one block at a time. The last block may overlap the one before it, so that it is whole.
+/// Like `following_many`, if the bytes up to `start` follow each other. A block's test needs the
+/// `DECIDING` bytes before it. The last block may overlap the one before it, so that it is whole.
 #[inline(always)]
 fn following_from<F: Flavor, S: CharacterSet>(bytes: &[u8], start: usize) -> usize
     requires first { FirstFollow S.set F.flavor bytes.now start }
@@ -142,10 +137,9 @@ fn following_twos<F: Flavor, S: CharacterSet>(bytes: &[u8], start: usize) -> usi
     at
 }
 
-/// Returns the last character boundary up to `at`. All bytes before `at` can follow each other, and
-/// the byte at `at`, if there is one, cannot. If the set has no characters that need conversion, a
-/// character that is cut off begins in the last two bytes. Both bytes are loaded before the tests,
-/// to have fewer branches that can be mispredicted.
+/// Returns the last character boundary up to `at`, the result of `following_many`. If a set has no
+/// characters that need conversion, a character that is cut off begins in the last two bytes. Both
+/// are loaded before the tests, to have fewer branches that can be mispredicted.
 #[inline(always)]
 fn last_boundary<F: Flavor, S: CharacterSet>(bytes: &[u8], at: usize) -> usize
     requires { FollowUpTo S.set F.flavor bytes.now at }
@@ -208,8 +202,7 @@ fn begins_high_surrogate(first: u8, second: u8) -> bool
     first == 0xED && matches!(second, 0xA0..=0xAF)
 }
 
-/// Returns the byte that precedes an offset by `back` bytes, or 0 if there is none. The four bytes
-/// before an offset decide whether a character can cross it.
+/// Returns the byte that precedes an offset by `back` bytes, or 0 if there is none.
 #[inline(always)]
 fn byte_before(bytes: &[u8], at: usize, back: usize) -> u8
     requires at { at ≤ length bytes.now }

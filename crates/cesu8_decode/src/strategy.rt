@@ -9,24 +9,18 @@
 //! | at most 4,096 (`LARGEST_ARRAY`) | `LargestArray` | chunks | the largest array |
 //! | more | `Chunks` | chunks | chunks |
 //!
-//! - One window: the test for the unchanged prefix has found all that strict decoding needs, and
-//!   lossy decoding computes the window again only if a byte is ill-formed (`pass::short`).
+//! - One window: unless a byte is ill-formed, the test for the unchanged prefix has computed it.
 //! - The arrays: one pass over the bytes in windows of 64, written to an array on the stack from
 //!   which the text is copied. The pass has few branches on the content of a window, since they
 //!   would be mispredicted. The sizes are a matter of speed: a larger array takes longer to clear
 //!   and more stack, three bytes for each input byte in lossy decoding.
 //! - Chunks: the pass stops when its buffer is full, and continues with an empty one. A `String` is
-//!   written in place, over `CLEARED_AT_ONCE` (in `chunks`) zeros at a time. A slice may be too
-//!   short, so its text is copied from a large array, after strict decoding has validated all
-//!   bytes, and after a pass for the length if that is needed. Lossy decoding to a `String` counts
-//!   only the bytes after a first part of at most 4,096.
+//!   written in place. The text for a slice is copied from a large array, after strict decoding has
+//!   validated all bytes, and after a pass for the length if that is needed.
 //!
 //! Strict decoding of more than 64 bytes to a `String` goes from one converted character to the
-//! next (`destinations::strict_append`) as long as these are far apart: the first after at least 16
-//! bytes (`FIRST_RUN`), and each later one after at least 64 (`NEXT_RUN`). The rest is decoded by
-//! one window if it has at most 64 bytes, and otherwise by chunks, which use a small array if the
-//! `String` has little capacity left. Before strict decoding starts an array or chunks, it rejects
-//! input that ends within a character, except after the first half of a surrogate pair.
+//! next as long as these are far apart (`destinations::strict_append`). The rest is decoded by one
+//! window if it has at most 64 bytes, and otherwise by chunks.
 
 ghost use Rattle.std.specs.Prelude.{◌≤◌, ◌↔◌, IsTrue, length};
 ghost use Rattle.cesu8_decode.specs.Decoding.{Takes};
@@ -34,7 +28,6 @@ ghost use Rattle.cesu8_decode.specs.Decoding.{Takes};
 use cesu8_bytes::BLOCK;
 use cesu8_bytes::lanes::class::LANES;
 
-/// The strategies, from the one for the shortest input on.
 #[derive(Clone, Copy)]
 pub enum Strategy {
     Short,

@@ -11,9 +11,8 @@ use cesu8_bytes::flavor::Flavor;
 use cesu8_bytes::strictness::{Reading, Strictness};
 use cesu8_bytes::writing::copies::copy_to_slice;
 
-/// Writes the text of the input in mode `A` to the start of the slice, and returns its length in
-/// bytes. It is an error if the slice is too short, and then nothing is written; in strict decoding
-/// also if a byte is ill-formed.
+/// Writes the input's text in mode `A` to the start of the slice, and returns its length. Returns
+/// an error and writes nothing if the slice is too short, or if strict decoding rejects a byte.
 #[inline(always)]
 pub fn decode_to_slice<F: Flavor, A: Accepts, S: Reading>(
     bytes: &[u8],

@@ -1,6 +1,5 @@
-//! The length of the valid prefix: how many bytes from the start are whole encoded characters. In
-//! at most 64 bytes, one window, it ends at the first byte that no character covers. `prefix` finds
-//! it in longer input.
+//! The valid prefix: how many bytes from the start are whole encoded characters. In at most 64
+//! bytes, one window, it ends at the first ill-formed byte. `prefix` finds it in longer input.
 
 ghost use Rattle.std.specs.Prelude.{◌≡◌, IsTrue, false};
 ghost use Rattle.cesu8_text.specs.Fronts.{IsValidUpTo};
@@ -23,8 +22,7 @@ pub fn valid_up_to<F: Flavor>(bytes: &[u8]) -> usize
     valid_up_to_other::<F>(bytes)
 }
 
-/// Like `valid_up_to`, without the fast path for short ASCII. It is not inlined, so that
-/// `valid_up_to` stays small.
+/// Like `valid_up_to`, without its fast path. It is not inlined, so that `valid_up_to` stays small.
 #[inline(never)]
 pub fn valid_up_to_other<F: Flavor>(bytes: &[u8]) -> usize
     ensures { IsValidUpTo F.flavor bytes.now result }

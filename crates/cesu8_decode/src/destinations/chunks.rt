@@ -39,10 +39,9 @@ pub fn append_chunks<F: Flavor, S: Reading>(
     Ok(text)
 }
 
-/// Appends the text of the next bytes. It appends zeros, overwrites them with the text, and
-/// truncates the rest. If the vector has less than `SMALL_STRICT` bytes of spare capacity, the text
-/// is written to an array and copied, since the pass also stores bytes after the text. By `fits`
-/// the text fits the capacity, however many bytes the pass reads.
+/// Appends the text of the next bytes. If the vector has little spare capacity, the text is written
+/// to an array and copied, since the pass also stores bytes after the text. By `fits` the text fits
+/// the capacity, however many bytes the pass reads.
 #[inline(always)]
 fn append_next<F: Flavor>(
     bytes: &[u8],
@@ -82,10 +81,9 @@ pub fn append_by_call(bytes: &[u8], out: &mut Vec<u8>)
     append(bytes, out);
 }
 
-/// Writes the lossily decoded text at the start of a slice that is long enough, and returns its
-/// length. The text is written to an array and copied, since the pass also stores bytes after it,
-/// and the rest of a caller's slice must be unchanged. It is not inlined, since it is called
-/// in two places, and so that only a call clears the array.
+/// Writes the lossily decoded text to a slice that is long enough, and returns its length. The text
+/// is copied from an array, since the pass also stores bytes after it, where the slice must not
+/// change. It is not inlined, since it is called twice, and so that only a call clears the array.
 #[inline(never)]
 pub fn put_chunks<F: Flavor>(bytes: &[u8], out: &mut [u8]) -> usize
     requires { lossy_length F.flavor bytes.now ≤ length out.old }

@@ -85,9 +85,8 @@ fn put_after_prefix<F: Flavor>(
     }
 }
 
-/// Writes the lossily decoded text to a caller's slice and returns its length. Returns an error if
-/// the slice is too short. It is not inlined, so that a call that copies its input saves no
-/// register for it.
+/// Like `put_strictly`, for lossy decoding. It is not inlined, so that a call that copies its input
+/// saves no register for it.
 #[inline(never)]
 pub fn put_lossily<F: Flavor>(
     bytes: &[u8],
@@ -136,8 +135,7 @@ fn put_rest<F: Flavor>(bytes: &[u8], buf: &mut [u8]) -> Result<usize, WriteError
     put_short::<F, StrictReading, SHORT_STRICT>(bytes, prefix, buf)
 }
 
-/// Writes the decoded text of at most 64 bytes to an array, and copies it from there. `prefix` is
-/// their unchanged prefix, which is not all of them.
+/// Writes the decoded text of at most 64 bytes to an array, and copies it from there.
 #[inline(always)]
 fn put_short<F: Flavor, S: Reading, const WRITTEN: usize>(
     bytes: &[u8],
@@ -156,8 +154,7 @@ fn put_short<F: Flavor, S: Reading, const WRITTEN: usize>(
     copy_by_call(&written[..end], buf).map_err(WriteError::NoRoom)
 }
 
-/// Writes the decoded text to an array that is long enough for it, and copies it from there. It is
-/// not inlined, so that only a call clears the array.
+/// Like `put_short`, for more bytes. It is not inlined, so that only a call clears the array.
 #[inline(never)]
 fn put_by_array<F: Flavor, S: Reading, const WRITTEN: usize>(
     bytes: &[u8],
@@ -173,8 +170,7 @@ fn put_by_array<F: Flavor, S: Reading, const WRITTEN: usize>(
     copy_by_call(&written[..end], buf).map_err(WriteError::NoRoom)
 }
 
-/// Like `copy_to_slice`, but copies by a call, since that code, with a path for each range of
-/// lengths, is long.
+/// Like `copy_to_slice`, but copies by a call: paths for each range of lengths make the code long.
 #[inline(always)]
 pub fn copy_by_call(bytes: &[u8], buf: &mut [u8]) -> Result<usize, NoRoom>
     ensures { PutsAnswer bytes.now result buf.old buf.new }
@@ -198,7 +194,6 @@ pub fn copy_short_or_call(bytes: &[u8], buf: &mut [u8]) -> Result<usize, NoRoom>
     copy_by_call(bytes, buf)
 }
 
-/// Calls `copy_short`.
 #[inline(never)]
 fn copy_short_by_call(bytes: &[u8], buf: &mut [u8])
     requires { length bytes.now ≤ length buf.old }
@@ -207,10 +202,9 @@ fn copy_short_by_call(bytes: &[u8], buf: &mut [u8])
     copy_short(bytes, buf);
 }
 
-/// Writes the decoded text of more bytes than are decoded to an array, by `put_chunks`. In strict
-/// decoding it first validates the bytes: if none is ill-formed, the lossily decoded text is the
-/// strictly decoded text. It then counts the length, unless the bytes are valid and the slice is at
-/// least as long as the input. It is not inlined, so that shorter input has few registers to save.
+/// Writes the text of more bytes than are decoded to an array. If none is ill-formed, the lossily
+/// decoded text is the strictly decoded text, which fits a slice as long as the input. It is not
+/// inlined, so that shorter input has few registers to save.
 #[inline(never)]
 fn put_many<F: Flavor, S: Reading>(bytes: &[u8], buf: &mut [u8]) -> Result<usize, WriteError>
     ensures { PutsReading F.flavor S.which bytes.now result buf.old buf.new }

@@ -24,17 +24,14 @@ use cesu8_bytes::pairs::{PAIR, PAIR_READ, utf8_of_pair};
 use cesu8_bytes::strictness::{NoText, StrictReading};
 use cesu8_bytes::writing::copies::{append, append_prefix, append_short};
 
-/// If the first unchanged run is shorter than this, windows are faster. So the rest is decoded
-/// window by window, unless at most 64 bytes are left.
+/// If the first unchanged run is shorter than this, windows are faster, and decode the rest.
 const FIRST_RUN: usize = 16;
 
-/// If a later unchanged run is shorter than this, the rest is decoded window by window: windows are
-/// faster if converted characters are close together.
+/// Like `FIRST_RUN`, for each later unchanged run.
 const NEXT_RUN: usize = 64;
 
 /// Appends the strictly decoded text of more than 64 bytes, of which the first `len` are unchanged.
-/// It goes from one converted character to the next as long as these are far apart, and decodes the
-/// rest window by window. It is not inlined, so that at most 64 bytes have few registers to save.
+/// It is not inlined, so that at most 64 bytes have few registers to save.
 #[inline(never)]
 pub fn append_many<F: Flavor>(bytes: &[u8], len: usize, before: Vec<u8>) -> Result<Vec<u8>, NoText>
     requires many { LANES < length bytes.now }
@@ -84,7 +81,6 @@ fn append_last<F: Flavor>(bytes: &[u8], before: Vec<u8>) -> Result<Vec<u8>, NoTe
 }
 
 /// Appends the strictly decoded text of at most 64 bytes, which is written to an array first.
-/// `prefix` is their unchanged prefix, which is not all of them.
 #[inline(always)]
 pub fn append_short_strictly<F: Flavor>(
     bytes: &[u8],
@@ -104,8 +100,7 @@ pub fn append_short_strictly<F: Flavor>(
 }
 
 /// Appends the unchanged prefix and, in UTF-8, the character after it. Returns the bytes after that
-/// character. If no character that needs conversion follows the prefix, the byte there is
-/// ill-formed, and an error is returned.
+/// character, or an error if the prefix is not followed by a character that needs conversion.
 #[inline(always)]
 fn append_to_next<'a, F: Flavor>(
     bytes: &'a [u8],

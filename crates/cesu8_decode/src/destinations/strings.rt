@@ -28,8 +28,7 @@ use cesu8_bytes::strictness::{LossyReading, NoText};
 use cesu8_bytes::writing::copies::copy;
 use std::alloc::{AllocError, Global};
 
-/// Writes the strictly decoded text to an empty vector, or returns an error if a byte is
-/// ill-formed. `prefix` is the unchanged prefix, which is not all of the bytes.
+/// Writes the strictly decoded text to an empty vector. It is an error if a byte is ill-formed.
 #[inline(always)]
 pub fn write_strictly<F: Flavor>(
     bytes: &[u8],
@@ -54,9 +53,8 @@ pub fn write_strictly<F: Flavor>(
     write_many::<F>(bytes, prefix.len, empty)
 }
 
-/// Writes the strictly decoded text of more than 64 bytes, of which the first `prefix` are
-/// unchanged. It is split off from `write_strictly`, so that at most 64 bytes skip the zeroing of
-/// result slots: a function zeroes them first, even if it is inlined.
+/// Split off from `write_strictly`, so that at most 64 bytes skip the zeroing of result slots: a
+/// function zeroes them first, even if it is inlined.
 #[inline(always)]
 fn write_many<F: Flavor>(bytes: &[u8], prefix: usize, empty: Vec<u8>) -> Result<Vec<u8>, NoText>
     requires many { LANES < length bytes.now }
@@ -86,8 +84,7 @@ pub fn build_lossily<F: Flavor>(
     }
 }
 
-/// Returns the lossily decoded text of at most 64 bytes. It is not inlined, so that only a call
-/// clears the array.
+/// Builds the text of at most 64 bytes. It is not inlined, so that only a call clears the array.
 #[inline(never)]
 fn build_short<F: Flavor>(
     alloc: Global,
@@ -103,8 +100,7 @@ fn build_short<F: Flavor>(
     copy(alloc, &written[..end])
 }
 
-/// Returns the lossily decoded text, which is written to an array that is long enough for it and
-/// copied from there. It is not inlined, so that only a call clears the array.
+/// Like `build_short`, for more bytes, whose text fits in the array. It is not inlined either.
 #[inline(never)]
 fn build_by_array<F: Flavor, const WRITTEN: usize>(
     alloc: Global,
@@ -118,8 +114,7 @@ fn build_by_array<F: Flavor, const WRITTEN: usize>(
     copy(alloc, &written[..end])
 }
 
-/// Returns the lossily decoded text of more than 4,096 bytes. A length that does not fit `usize` is
-/// reported as a failed allocation. The first part is decoded before the rest is counted.
+/// Builds the text of more than 4,096 bytes. A length over `usize` is reported as `AllocError`.
 #[inline(never)]
 fn build_chunks<F: Flavor>(alloc: Global, bytes: &[u8]) -> Result<Vec<u8>, AllocError>
     requires { LARGEST_ARRAY < length bytes.now }
@@ -136,9 +131,8 @@ fn build_chunks<F: Flavor>(alloc: Global, bytes: &[u8]) -> Result<Vec<u8>, Alloc
     Ok(text)
 }
 
-/// Splits the bytes at a character boundary, into a first part whose text fits an array and the
-/// rest. The boundary is sought among the last 32 offsets up to `LARGEST_ARRAY`. If none is found,
-/// the first part is empty.
+/// Splits the bytes at a character boundary, which is sought among the last 32 offsets up to
+/// `LARGEST_ARRAY`. If none is found, the first part is empty.
 #[inline(always)]
 fn first_part(bytes: &[u8]) -> (&[u8], &[u8])
     requires { LARGEST_ARRAY < length bytes.now }

@@ -42,8 +42,7 @@ const REPLACEMENTS: [u8; 32] = [
 
 /// If a window has at least this many C0 80, and no other event, shuffles pack it.
 pub const MANY_NULLS: u32 = 4;
-/// If a window has at least this many runs of ill-formed bytes, and no other event, shuffles pack
-/// it. With fewer runs it is faster to store replacement characters for one run after another.
+/// Like `MANY_NULLS`, for runs of ill-formed bytes. Fewer runs are faster to write one by one.
 const MANY_RUNS: u32 = 5;
 
 /// Writes the text of a window that has no ill-formed byte, and returns its end.
@@ -66,8 +65,7 @@ pub fn write_well_formed_events<F: Flavor>(
     write_in_turn::<F, LANES>(bytes, at, window, out, end)
 }
 
-/// Writes the text of any window, and returns its end. It is meant for a window that has ill-formed
-/// bytes: it has no faster code for one without.
+/// Writes the text of any window, and returns its end. It is meant for one with ill-formed bytes.
 #[inline(always)]
 #[tactic(auto, using(std::proofs::lemmas::Nat::le_or_l, std::proofs::lemmas::Nat::le_or_r))]
 pub fn write_ill_formed_events<F: Flavor>(
@@ -90,8 +88,7 @@ pub fn write_ill_formed_events<F: Flavor>(
 }
 
 /// Writes the events one after another, and copies the bytes between them. If `ill_formed` is known
-/// to be 0, it is compiled without the code that replaces ill-formed bytes. Each copy stores
-/// `WIDTH` bytes, the length of the longest window.
+/// to be 0, it is compiled without the code that replaces ill-formed bytes.
 #[inline(always)]
 pub fn write_in_turn<F: Flavor, const WIDTH: usize>(
     bytes: &[u8],
@@ -145,8 +142,7 @@ fn copy_between<const WIDTH: usize>(
     end + count
 }
 
-/// Writes the UTF-8 of the C0 80 or the surrogate pair at an offset. Returns the length of that
-/// character and the end of its UTF-8.
+/// Writes the C0 80 or surrogate pair at `at` as UTF-8, and returns its length and the text's end.
 #[inline(always)]
 fn write_changed<F: Flavor>(
     bytes: &[u8],
@@ -175,8 +171,7 @@ fn write_changed<F: Flavor>(
     (len, end + written)
 }
 
-/// Writes `count` replacement characters, and returns their end. Each store writes ten, so bytes
-/// after the end are overwritten too.
+/// Writes `count` replacement characters and returns their end. Bytes after it are overwritten too.
 #[inline(always)]
 fn put_replacements(count: usize, out: &mut [u8], end: usize) -> usize
     requires count { count ≤ LANES }

@@ -33,10 +33,9 @@ pub const SHORT_LOSSY: usize = WIDEST * LANES + STORED_AFTER;
 /// The length of an array for 64 bytes, and for as many zeros after them that are loaded too.
 const SOURCE: usize = LANES + LANES;
 
-/// Writes the decoded text of at most 64 bytes and returns its length, or returns an error if
-/// decoding is strict and a byte is ill-formed. `prefix` is their unchanged prefix, which is not
-/// all of them. Its mask `changed` is 0 if a byte is ill-formed. Otherwise the prefix ends at a
-/// character that needs conversion, so the mask is not 0.
+/// Writes the decoded text of at most 64 bytes and returns its length, or an error if decoding is
+/// strict and a byte is ill-formed. The mask `changed` is 0 exactly if one is ill-formed: otherwise
+/// a character that needs conversion ends the prefix, which is not all of the bytes.
 #[inline(always)]
 #[tactic(auto, using(crate::proofs::decoder::Passes::reads_text))]
 pub fn write_short<F: Flavor, S: Reading>(
@@ -59,9 +58,8 @@ pub fn write_short<F: Flavor, S: Reading>(
     }
 }
 
-/// Writes the text of at most 64 bytes, none of which is ill-formed, and returns its length.
-/// `changed` is the mask of the characters that need conversion. It is not inlined, since it has
-/// many callers.
+/// Writes the text of at most 64 bytes, none of which is ill-formed, and returns its length. It is
+/// not inlined, since it has many callers.
 #[inline(never)]
 fn write_well_formed<F: Flavor>(bytes: &[u8], changed: u64, out: &mut [u8]) -> usize
     requires short { length bytes.now ≤ LANES }
@@ -84,8 +82,7 @@ fn write_well_formed<F: Flavor>(bytes: &[u8], changed: u64, out: &mut [u8]) -> u
     write_well_formed_events::<F>(&source, 0, window, out, 0)
 }
 
-/// Writes the lossily decoded text of at most 64 bytes, of which any may be ill-formed, and returns
-/// its length. It is not inlined, since it has several callers.
+/// Like `write_well_formed`, but decodes lossily. It is not inlined, since it has several callers.
 #[inline(never)]
 fn write_lossily<F: Flavor>(bytes: &[u8], out: &mut [u8]) -> usize
     requires short { length bytes.now ≤ LANES }

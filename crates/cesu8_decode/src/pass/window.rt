@@ -1,8 +1,7 @@
-//! Writes the text of one window.
+//! Writes the text of one window: `window_at` finds its events and its end, and `events` writes it.
 //!
-//! `window_at` computes the masks of the events and where the last character ends, and `events`
-//! writes the text. A window begins and ends at character boundaries, so one can be
-//! written after another. In strict decoding a window with an ill-formed byte is not written.
+//! A window begins and ends at character boundaries, so one can be written after another. In strict
+//! decoding a window with an ill-formed byte is not written.
 
 ghost use Rattle.std.specs.Prelude.{◌≡◌, ℕ, ◌+◌, ◌-◌, ◌≤◌, ◌⊎◌, true, false, length, slice_index};
 ghost use Rattle.cesu8_decode.specs.Decoding.{WritesDecoded};
@@ -17,15 +16,13 @@ use cesu8_bytes::strictness::Strictness;
 /// The most bytes that are written for one byte: the length of the replacement character.
 pub const WIDEST: usize = 3;
 
-/// How many bytes `write_window` needs in the buffer: for the longest text of a window, and for
-/// what is stored after it.
+/// The space that `write_window` needs: for the longest text, and for what is stored after it.
 pub const ROOM: usize = WIDEST * LANES + STORED_AFTER;
 
 /// The most bytes that a window can read after its `count` bytes: the last ones of a character.
 pub const READ_AFTER: usize = LANES - STEP;
 
-/// The result of a window: how many bytes were read, the end of the text, and whether strict
-/// decoding rejects one of the bytes.
+/// How many bytes were read, the end of their text, and whether strict decoding rejects one.
 #[derive(Drop)]
 pub struct Written {
     pub read: usize,

@@ -21,8 +21,7 @@ use cesu8_bytes::pairs::{PAIR, PAIR_READ, PAIR_UTF8, is_pair, utf8_of_pair};
 use cesu8_bytes::strictness::{Reading, Strictness};
 use cesu8_bytes::writing::offsets::put;
 
-// The lengths of buffers: for the longest text of so many bytes (`strategy`), and `ROOM` more,
-// without which the pass stops.
+// Lengths of buffers: the longest text of so many bytes, and `ROOM`, without which the pass stops.
 pub const SMALL_STRICT: usize = SMALL_ARRAY + ROOM;
 
 pub const LARGE_STRICT: usize = LARGE_ARRAY + ROOM;
@@ -42,8 +41,7 @@ const BEFORE: usize = 5;
 /// The length of an array for the last bytes, the five before them, and the zeros after them.
 const AROUND: usize = BEFORE + IN_PLACE + READ_AFTER + LANES;
 
-/// The state of the pass: how many bytes were read, the end of their text, and whether strict
-/// decoding rejects one of them.
+/// How many bytes were read so far, the end of their text, and whether strict decoding rejects one.
 #[derive(Drop)]
 pub struct Pass {
     pub read: usize,
@@ -51,9 +49,8 @@ pub struct Pass {
     pub is_rejected: bool,
 }
 
-/// Continues the pass from a character boundary, as long as the buffer has space for the text of
-/// another window. It stops at a window that strict decoding rejects. It is not inlined, since it
-/// has many callers.
+/// Continues the pass from a character boundary, as long as the buffer has space for another window
+/// and strict decoding rejects none. It is not inlined, since it has many callers.
 #[inline(never)]
 pub fn write_windows<F: Flavor>(
     bytes: &[u8],
@@ -78,8 +75,7 @@ pub fn write_windows<F: Flavor>(
     write_last::<F>(bytes, pass, strictness, limit, out)
 }
 
-/// Writes the text of all bytes to a buffer with enough space and returns its length, or returns an
-/// error if decoding is strict and a byte is ill-formed.
+/// Writes the text of all bytes and returns its length, or an error if strict decoding rejects one.
 #[inline(always)]
 #[tactic(auto, using(crate::proofs::decoder::Passes::at_start))]
 pub fn write_all<F: Flavor, S: Reading>(bytes: &[u8], out: &mut [u8]) -> Result<usize, S::Error>
@@ -90,8 +86,7 @@ pub fn write_all<F: Flavor, S: Reading>(bytes: &[u8], out: &mut [u8]) -> Result<
     S::unless_rejected(pass.is_rejected, pass.end)
 }
 
-/// Writes the surrogate pairs that come next, one after another. If the text is mostly surrogate
-/// pairs, this is faster than windows.
+/// Writes the surrogate pairs that come next. If the text is mostly pairs, windows are slower.
 #[inline(always)]
 fn write_pairs<F: Flavor>(bytes: &[u8], read: usize, limit: usize, out: &mut [u8]) -> Pass
     requires pass { IsPass F.flavor bytes.now read }
@@ -174,8 +169,7 @@ fn copy_unchanged<F: Flavor>(bytes: &[u8], before: Pass, limit: usize, out: &mut
     }
 }
 
-/// Writes the windows of the last bytes, as long as there is space. These bytes and the five before
-/// them are copied to an array first.
+/// Copies the last bytes to an array, and writes their windows as long as there is space.
 #[inline(always)]
 fn write_last<F: Flavor>(
     bytes: &[u8],

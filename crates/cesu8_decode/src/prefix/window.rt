@@ -11,7 +11,6 @@ use cesu8_bytes::flavor::Flavor;
 use cesu8_bytes::lanes::class::LANES;
 use std::simd::prelude::*;
 
-/// The unchanged prefix of some bytes.
 #[derive(Clone, Copy)]
 pub struct UnchangedPrefix {
     /// The length of the longest prefix of whole characters that are unchanged in UTF-8.
@@ -21,8 +20,7 @@ pub struct UnchangedPrefix {
     pub changed: u64,
 }
 
-/// Returns the unchanged prefix of at most 64 bytes, and which characters need conversion if no
-/// byte is ill-formed. The lanes are the bytes, padded with zeros.
+/// Returns the unchanged prefix of at most 64 bytes. The lanes are these bytes, padded with zeros.
 #[inline(always)]
 pub fn prefix_by_window<F: Flavor, const N: usize>(
     bytes: &[u8],

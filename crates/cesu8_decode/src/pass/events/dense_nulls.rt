@@ -14,9 +14,8 @@ use cesu8_bytes::lanes::class::LANES;
 use cesu8_bytes::writing::packing::store_kept;
 use std::simd::prelude::*;
 
-/// Writes the text of a window that has no other events than C0 80, and returns its end. The window
-/// begins at a character boundary. The space (`room`) is that of `write_well_formed_events`, which
-/// is more than the stores here need.
+/// Writes the text and returns its end. The space (`room`) is that of `write_well_formed_events`,
+/// which is more than the stores here need.
 #[inline(always)]
 pub fn write_nulls<F: Flavor>(
     bytes: &[u8],

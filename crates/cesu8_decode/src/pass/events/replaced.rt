@@ -16,9 +16,8 @@ use cesu8_bytes::lanes::class::LANES;
 use cesu8_bytes::writing::packing::{HALF, STORED, picked, second_of};
 use std::simd::prelude::*;
 
-/// The shuffles for four bytes, which are in lanes 0 to 3. Lanes 4 to 6 hold the replacement
-/// character. In row `d` it takes the place of byte `i` if bit `i` of `d` is set. The last number
-/// of a row is how many bytes it writes.
+/// The shuffles for four bytes, in lanes 0 to 3. Lanes 4 to 6 hold U+FFFD. In row `d` it takes the
+/// place of byte `i` if bit `i` of `d` is set. The last number is how many bytes the row writes.
 const ROWS: [[u8; 16]; 16] = [
     [0, 1, 2, 3, 0, 0, 0, 0, 0, 0, 0, 0, 0, 0, 0, 4],
     [4, 5, 6, 1, 2, 3, 0, 0, 0, 0, 0, 0, 0, 0, 0, 6],
@@ -47,7 +46,6 @@ const REPLACEMENTS: [u8; 16] = [
 pub const REPLACEMENT: usize = 3;
 
 /// Writes the text of a window that has no other events than ill-formed bytes, and returns its end.
-/// The window begins at a character boundary.
 #[inline(always)]
 pub fn write_replaced<F: Flavor>(
     bytes: &[u8],
