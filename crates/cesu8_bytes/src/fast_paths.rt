@@ -1,9 +1,8 @@
 //! Fast paths: what a call checks before it converts anything.
 //!
-//! Most strings in class files, tag files and keys are short ASCII. So a public call first makes
-//! one of these checks, and returns at once if nothing has to be converted. The checks are inlined,
-//! but more than 256 bytes are searched by a call. All but the last have a size limit: beyond it,
-//! the check costs other input more than it saves ASCII.
+//! Most strings in class files, tag files and keys are short ASCII. So a public call first checks
+//! whether anything has to be converted. The checks are inlined, but more than 256 bytes are
+//! searched by a call. Beyond its limit, a check costs other input more than it saves ASCII.
 //!
 //! | limit (bytes) | check | used by |
 //! |---|---|---|
@@ -13,8 +12,7 @@
 //! | none | does any byte change in the encoding? | encoding |
 //!
 //! "Unchanged" means that the byte is the same in UTF-8 and in the encoding: in CESU-8 all ASCII
-//! is, in MUTF-8 all but 00. For at most a block (32 bytes), `encode_to_slice` makes the last check
-//! by `may_need_encoding`.
+//! is, in MUTF-8 all but 00.
 
 ghost use Rattle.std.specs.Prelude.{◌↔◌, IsTrue, Any, take};
 ghost use Rattle.std.specs.Str.{chars, IsAscii};
@@ -55,9 +53,8 @@ pub fn is_short_unchanged_ascii<F: Flavor>(bytes: &[u8]) -> bool
     bytes.len() <= CHECKED_INLINE && !any_in_bytes_or_call::<Either<F::Null, NonAscii>>(bytes)
 }
 
-/// Returns true only if the first `len` bytes are unchanged ASCII, `len` is at most 64, and the
-/// slice has 64 bytes to load. Strings that follow one another have random lengths, so nothing here
-/// branches on `len`: a branch would be mispredicted.
+/// Returns true only if the first `len` bytes of at least 64 are unchanged ASCII, and `len` is at
+/// most 64. A branch on `len`, which is random in consecutive strings, would be mispredicted.
 #[inline(always)]
 pub fn begins_with_unchanged_ascii<F: Flavor>(bytes: &[u8], len: usize) -> bool
     ensures ascii { IsTrue result → IsAscii (take len bytes.now) }
@@ -77,8 +74,8 @@ pub fn needs_encoded<F: Flavor>(value: &str) -> bool
 }
 
 /// Returns true if the encoding changes a character of the string. The contract allows it to return
-/// true otherwise. Callers have at most a block (32 bytes), so no loop is inlined. A string has no
-/// byte above F7 (hexadecimal), so one comparison finds a four-byte lead.
+/// true otherwise. Its caller, `encode_to_slice`, has at most 32 bytes, so no loop is inlined. A
+/// string has no byte above F7 (hexadecimal), so one comparison finds a four-byte lead.
 #[inline(always)]
 pub fn may_need_encoding<F: Flavor>(value: &str) -> bool
     ensures { NeedsEncoding F.flavor (chars value.now) → IsTrue result }

@@ -12,8 +12,7 @@ use std::simd::prelude::*;
 
 /// An encoding: CESU-8 or MUTF-8.
 pub trait Flavor {
-    /// The class of the bytes that become C0 80: 00 in MUTF-8, and no byte in CESU-8. `lengths`
-    /// counts these bytes, and `search` finds them.
+    /// The class of the bytes that become C0 80: 00 in MUTF-8, and no byte in CESU-8.
     type Null: CountsOne + InGroups;
 
     ghost flavor: { AnyFlavor };

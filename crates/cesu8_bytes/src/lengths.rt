@@ -19,8 +19,7 @@ pub fn encoded_len<F: Flavor>(text: &str) -> usize
     text.len() + weight::<F::Null>(text.as_bytes())
 }
 
-/// Like `encoded_len`, but faster for a string that the encoding leaves unchanged: testing whether
-/// any byte changes takes less time than counting those that do.
+/// Like `encoded_len`, but faster for an unchanged string: a search takes less time than a count.
 #[inline(always)]
 pub fn encoded_len_by_need<F: Flavor>(text: &str) -> usize
     ensures { result ≡ length (encoding F.flavor (chars text.now)) }

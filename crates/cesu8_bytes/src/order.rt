@@ -1,8 +1,7 @@
 //! Compares strings by their UTF-16 code units, without encoding them.
 //!
 //! UTF-8 compares as scalar values do. UTF-16 differs: a surrogate pair is below U+E000 to U+FFFF,
-//! whose lead bytes in UTF-8 are EE and EF (hexadecimal). So these two have to rank above the
-//! four-byte leads. The first bytes that differ decide, or the lengths if none do.
+//! whose lead bytes in UTF-8 are EE and EF (hexadecimal). So these two rank above four-byte leads.
 
 ghost use Rattle.std.specs.Prelude.{◌≡◌, ◌≢◌, ℕ, ◌+◌, ◌<◌, ◌≤◌, length, slice_index};
 ghost use Rattle.std.specs.Cmp.Lexicographic.{slice_cmp};
@@ -17,7 +16,7 @@ use crate::lanes::runs::first_bit;
 use std::cmp::Ordering;
 use std::simd::prelude::*;
 
-/// Compares two strings by their UTF-16 code units.
+/// Compares two strings. The first bytes that differ decide, or the lengths if none do.
 pub fn compare_as_utf16(text: &str, other: &str) -> Ordering
     ensures { result ≡ slice_cmp nat_cmp (units (chars text.now)) (units (chars other.now)) }
 {

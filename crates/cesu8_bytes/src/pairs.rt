@@ -12,8 +12,7 @@ pub const PAIR_UTF8: usize = 4;
 /// How many bytes are read as one word. The two bytes after the pair do not matter.
 pub const PAIR_READ: usize = 8;
 
-/// The bits that all pairs have in common. A pair is ED, A0 to AF, 80 to BF, ED, B0 to BF, 80 to
-/// BF, with the first byte in the lowest bits of the word.
+/// The bits that all pairs share. A pair is ED, A0 to AF, 80 to BF, ED, B0 to BF, 80 to BF.
 const PAIR_BITS: u64 = 0x0000_80B0_ED80_A0ED;
 
 /// Returns whether the bytes begin with an encoded surrogate pair.
@@ -25,8 +24,7 @@ pub fn is_pair(bytes: &[u8]) -> bool
     first_word(bytes) & 0x0000_C0F0_FFC0_F0FF == PAIR_BITS
 }
 
-/// Returns the UTF-8 of the character whose surrogate pair begins the bytes. If none begins them,
-/// the four bytes have no meaning.
+/// Returns the UTF-8 of the pair that begins the bytes. If none does, the result has no meaning.
 #[inline(always)]
 pub fn utf8_of_pair(bytes: &[u8]) -> [u8; PAIR_UTF8]
     requires { PAIR_READ ≤ length bytes.now }
@@ -36,8 +34,7 @@ pub fn utf8_of_pair(bytes: &[u8]) -> [u8; PAIR_UTF8]
     // byte say how often 10000 fits. So this adds 1 to that byte. In a pair it is below B0, so
     // nothing is carried to the third.
     let word = first_word(bytes).wrapping_add(0x100);
-    // The leading bits of the four bytes, F0 80 80 80. Each term moves some of the character's bits
-    // to their places.
+    // The leading bits are F0 80 80 80. Each term puts some of the character's bits into place.
     let utf8 = 0x8080_80F0
         + (word >> 10 & 0x0000_0F07)
         + ((word & 0x0003_0300) << 4)

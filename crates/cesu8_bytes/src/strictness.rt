@@ -22,7 +22,6 @@ pub trait Reading {
     /// The error of strict decoding. In lossy decoding, which cannot fail, this type has no value.
     type Error: Drop;
 
-    /// Returns strict or lossy, as a value.
     fn strictness() -> Strictness
         ensures { result ≡ which };
 
@@ -31,7 +30,6 @@ pub trait Reading {
         ensures { OkIff result (which ≡ Strict → is_rejected ≡ false) read };
 }
 
-/// Strict decoding: an ill-formed byte is an error.
 pub struct StrictReading;
 
 /// The error of strict decoding: the bytes are the encoding of no text.
@@ -54,7 +52,6 @@ impl Reading for StrictReading {
     }
 }
 
-/// Lossy decoding: an ill-formed byte is replaced.
 pub struct LossyReading;
 
 impl Reading for LossyReading {

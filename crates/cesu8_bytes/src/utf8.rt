@@ -1,11 +1,10 @@
-//! Bytes that are known to be UTF-8, as a `&str` or a `String`, without a test.
+//! Bytes that are known to be UTF-8, as a `&str` or a `String`, without a test or a copy.
 
 ghost use Rattle.std.specs.Prelude.{◌≡◌, IsUtf8, vec_capacity};
 ghost use Rattle.std.specs.String.{string_bytes, string_capacity};
 
 use std::str;
 
-/// Returns bytes that are known to be UTF-8 as a `&str`, without testing them.
 #[inline(always)]
 pub fn known_text(bytes: &[u8]) -> &str
     requires { IsUtf8 bytes.now }
@@ -15,7 +14,6 @@ pub fn known_text(bytes: &[u8]) -> &str
     unsafe { str::from_utf8_unchecked(bytes) }
 }
 
-/// Returns bytes that are known to be UTF-8 as a `String`, without testing or copying them.
 #[inline(always)]
 pub fn known_string(bytes: Vec<u8>) -> String
     requires { IsUtf8 bytes.items }

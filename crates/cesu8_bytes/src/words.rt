@@ -1,9 +1,8 @@
 //! Searches by words of eight bytes, for the kernels of `implementation::word`.
 //!
-//! A word has a byte 00 if and only if subtracting 1 from each byte sets the high bit of some byte
-//! that did not have it set. Because of the borrow, a byte 01 above a 00 may get its high bit set
-//! too. So the test finds whether some byte is 00, but not which one. A byte is F0 to F7
-//! (hexadecimal) if its upper five bits are those of F0. An exclusive or with F0 makes them 0.
+//! A word has a byte 00 if and only if subtracting 1 from each byte sets a high bit that was clear.
+//! Because of the borrow, a byte 01 above a 00 may get its bit set too. So the test finds whether
+//! some byte is 00, not which one. A byte is F0 to F7 if its upper five bits are those of F0.
 
 ghost use Rattle.std.specs.Prelude.{◌≡◌, ◌<◌, ◌≤◌, ◌+◌, ◌↔◌, ℕ, Bool, IsTrue, Any, length, slice_range};
 ghost use Rattle.std.specs.Int.{to_le_bytes, w64};
@@ -12,7 +11,6 @@ ghost use Rattle.cesu8_bytes.specs.Kernels.{AnyIn, MayTest, Finds, MayTestWords,
 
 use std::simd::prelude::*;
 
-/// The number of bytes in a word.
 const WORD: usize = 8;
 
 /// Returns whether some word passes `test`. The words are the first eight bytes, each following

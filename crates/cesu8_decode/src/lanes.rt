@@ -1,5 +1,4 @@
-//! Vector code for 32 or 64 bytes, with no branch on a single byte. Of these modules, each uses
-//! only those above it:
+//! Vector code for 32 or 64 bytes, with no branch on single bytes. A module uses only those above:
 
 pub mod tables; // look-ups in tables of sixteen entries, and shifts from one vector to the next
 pub mod character_set; // sets of characters, as tables of which byte can follow which

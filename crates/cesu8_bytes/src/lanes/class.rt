@@ -24,8 +24,7 @@ pub trait InVectors<const N: usize>: Class {
         ensures { result ≡ map (λ b. lane (Self.class b)) bytes.entry };
 }
 
-/// A class that vectors of all widths can test for. Up to 64 bytes are tested by two vectors of one
-/// width, longer input by vectors of `LANES`.
+/// A class that vectors of all widths can test for. Short slices are tested by two of one width.
 pub trait InAllVectors: InVectors<LANES>
     + InVectors<32>
     + InVectors<16>
@@ -75,17 +74,12 @@ pub fn mask<C: InVectors<32>>(bytes: u8x32) -> u8x32
 pub struct NoByte;
 /// The one byte `BYTE`.
 pub struct Equal<const BYTE: u8>;
-/// The byte 00.
 pub type Null = Equal<0>;
-/// F0 to F7 (hexadecimal), tested by the upper five bits. The kernels, whose input may be any
-/// bytes, need exactly this class.
+/// F0 to F7 (hexadecimal). The kernels, whose input may be any bytes, need exactly this class.
 pub struct FourByteLead;
-/// `BYTE` and all greater bytes.
 pub struct AtLeast<const BYTE: u8>;
-/// F0 (hexadecimal) or more: in UTF-8 the four-byte leads, found by one comparison. `groups` tests
-/// four vectors for them by maxima.
+/// F0 (hexadecimal) or more: in UTF-8 the four-byte leads, found by one comparison.
 pub type AtLeastF0 = AtLeast<0xF0>;
-/// 80 (hexadecimal) or more: not ASCII.
 pub type NonAscii = AtLeast<0x80>;
 /// The bytes that are in `A` or in `B`.
 pub struct Either<A, B>(PhantomData<(A, B)>);

@@ -1,10 +1,9 @@
 //! Sums the weights of bytes of UTF-8, 64 bytes at a time: one for a byte in a class, and two for
 //! one that leads four bytes. The sum is the growth of an encoding, or the number of code units.
 //!
-//! In blocks of 1,024 bytes, each lane of a vector counts its own bytes. These are at most 16, so
-//! no lane overflows. Then the lanes are summed. In the rest, the bits of two masks are counted for
-//! each vector: of the class, and of four-byte leads. The last vector may overlap the one before
-//! it, and the bits that were counted already are shifted out.
+//! In blocks of 1,024 bytes, each lane of a vector counts its own bytes, at most 16, so none
+//! overflows. In the rest, the bits of two masks are counted: of the class, and of four-byte leads.
+//! The last vector may overlap the one before it, and bits counted already are shifted out.
 
 ghost use Rattle.std.specs.Prelude.{◌≡◌, ℕ, ◌<◌, ◌≤◌, ◌+◌, ◌-◌, ◌*◌, length, drop, sum_by};
 ghost use Rattle.std.specs.Simd.Lanes.{sum_l};
@@ -35,7 +34,6 @@ impl CountsOne for OneUnit {
 
 /// The vectors in a block. More of them would save sums, but leave more bytes to masks.
 const VECTORS_IN_LANES: usize = 16;
-/// The bytes in a block.
 const BYTES_IN_LANES: usize = VECTORS_IN_LANES * LANES;
 
 /// Returns the sum of the bytes' weights. Up to 64 bytes are counted inline.
@@ -49,7 +47,6 @@ pub fn weight<C: CountsOne>(value: &[u8]) -> usize
     }
 }
 
-/// Returns the sum of the weights of any bytes: whole blocks first, then the rest.
 #[inline(never)]
 fn long_weight<C: CountsOne>(value: &[u8]) -> usize
     ensures { result ≡ sum_by (weight_of C.class) value.now }
@@ -63,7 +60,6 @@ fn long_weight<C: CountsOne>(value: &[u8]) -> usize
     weight + remainder_weight::<C>(rest)
 }
 
-/// Returns the sum of the weights of a block. Each lane counts its own bytes.
 #[inline(always)]
 fn block_weight<C: CountsOne>(block: &[u8]) -> usize
     requires { length block.now ≡ BYTES_IN_LANES }
@@ -80,8 +76,7 @@ fn block_weight<C: CountsOne>(block: &[u8]) -> usize
     lane_sum(ones) + 2 * lane_sum(fours)
 }
 
-/// Returns the sum of the lanes. It adds each four in a wider lane, since 64 times 16 overflows a
-/// byte.
+/// Sums the lanes, each four of them in a wider lane, since 64 times 16 overflows a byte.
 #[inline(always)]
 fn lane_sum(lanes: u8x64) -> usize
     ensures { result ≡ sum_l lanes }
@@ -117,8 +112,7 @@ fn short_weight<C: CountsOne>(value: &[u8]) -> usize
     by_two_vectors!(value, pair_weight[C](value), 0)
 }
 
-/// Returns the sum of the weights of `N` to `2 * N` bytes: of the first `N`, and of the rest in the
-/// last `N`.
+/// Adds the weights of the first `N` bytes and those of the rest, which the last `N` bytes contain.
 #[inline(always)]
 fn pair_weight<C: CountsOne + InVectors<N>, const N: usize>(value: &[u8]) -> usize
     requires lanes { (0 < N) × (N ≤ 32) }
@@ -129,8 +123,7 @@ fn pair_weight<C: CountsOne + InVectors<N>, const N: usize>(value: &[u8]) -> usi
     first + end_weight::<C, N>(value, value.len() - N)
 }
 
-/// Returns the sum of the weights of the last `len` bytes, which the last vector contains. Fewer
-/// than 64 bits are shifted out.
+/// Sums the weights of the last `len` bytes by the last vector, shifting out fewer than 64 bits.
 #[inline(always)]
 fn end_weight<C: CountsOne + InVectors<N>, const N: usize>(value: &[u8], len: usize) -> usize
     requires lanes { N ≤ LANES }

@@ -15,7 +15,6 @@ use std::simd::prelude::*;
 /// A class for which four vectors can be tested at once. If the test returns true, `search` tests
 /// each vector again, and `runs` ends its run. So a false positive costs only time.
 pub trait InGroups: InVectors<LANES> {
-    /// Returns true if some byte of the four vectors is in the class, and perhaps otherwise.
     fn may_have(a: u8x64, b: u8x64, c: u8x64, d: u8x64) -> bool
         ensures { Any (AnyIn Self.class) (a ∷ b ∷ c ∷ d ∷ []) → IsTrue result };
 }

@@ -54,7 +54,6 @@ fn in_ends() -> &'static [[u8; HALF]; HALF]
     &IN_ENDS
 }
 
-/// Returns fewer than 16 bytes, padded with zeros.
 #[inline(always)]
 fn padded_sixteen(bytes: &[u8]) -> u8x16
     requires { length bytes.now < HALF }

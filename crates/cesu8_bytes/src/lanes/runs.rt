@@ -17,8 +17,7 @@ pub fn lanes_before<C: InVectors<N>, const N: usize>(lanes: Simd<u8, N>) -> usiz
     first_bit::<N>(bits::<C, N>(lanes))
 }
 
-/// Returns the index of the first bit that is set, or `N` if none is. A mask of `N` lanes has no bit
-/// from `N` on.
+/// Returns the index of the first bit that is set in a mask of `N` lanes, or `N` if none is.
 #[inline(always)]
 pub(crate) fn first_bit<const N: usize>(marks: u64) -> usize
     requires { N ≤ LANES }
@@ -35,8 +34,7 @@ pub(crate) fn first_bit<const N: usize>(marks: u64) -> usize
 const GROUP: usize = 4 * LANES;
 
 /// Returns the length of a prefix without a byte of the class, in whole groups of 256 bytes. It may
-/// stop at a group that has none, since the test of a group can have false positives. If one of the
-/// first 64 bytes is in the class, no more are tested.
+/// stop at a group that has none, since the test of a group can have false positives.
 #[inline(always)]
 pub fn run_of_groups<C: InGroups>(bytes: &[u8]) -> usize
     ensures within { (result ≤ length bytes.now) × (0 < result → GROUP ≤ result) }
@@ -52,7 +50,6 @@ pub fn run_of_groups<C: InGroups>(bytes: &[u8]) -> usize
     run
 }
 
-/// Returns true if one of the first 256 bytes is in the class. It may also return true otherwise.
 #[inline(always)]
 fn group_may_have<C: InGroups>(bytes: &[u8]) -> bool
     requires { GROUP ≤ length bytes.now }

@@ -30,8 +30,7 @@ pub fn any_in_bytes<C: InAllVectors + InGroups>(bytes: &[u8]) -> bool
     any_in_long::<C>(bytes)
 }
 
-/// Returns whether some byte of more than 64 is in the class. It tests the whole vectors, and then
-/// the last 64 bytes, which may overlap them.
+/// Like `any_in_bytes`, for more than 64 bytes: first whole vectors, then the last 64 bytes.
 #[inline(always)]
 pub fn any_in_long<C: InGroups>(bytes: &[u8]) -> bool
     requires { LANES < length bytes.now }
@@ -93,8 +92,7 @@ fn any_in_groups<C: InGroups>(groups: &[[[u8; LANES]; 4]]) -> bool
     false
 }
 
-/// Returns whether some byte of the group is in the class. Most groups are rejected by one test of
-/// all four chunks, and only the others are tested chunk by chunk.
+/// One test of all four chunks rejects most groups. Only the others are tested chunk by chunk.
 #[inline(always)]
 fn any_in_group<C: InGroups>(group: &[[u8; LANES]; 4]) -> bool
     ensures { IsTrue result ↔ Any (AnyIn C.class) group.now }
@@ -105,7 +103,6 @@ fn any_in_group<C: InGroups>(group: &[[u8; LANES]; 4]) -> bool
     C::may_have(a, b, c, d) && any_in_each::<C, LANES>(group)
 }
 
-/// Returns whether some byte of the chunks is in the class, testing each chunk.
 #[inline(always)]
 pub(crate) fn any_in_each<C: InVectors<N>, const N: usize>(chunks: &[[u8; N]]) -> bool
     requires { N ≤ LANES }

@@ -1,5 +1,4 @@
-//! Searches and copies short slices. A loop over vectors of each width would cost more than the
-//! search or the copy itself.
+//! Searches and copies short slices. Loops over vectors would cost more than the search or copy.
 //!
 //! Two vectors of one width, one at the start and one at the end, cover a slice whose length is
 //! between that width and twice that width. If it is shorter than twice the width, they overlap.
@@ -48,8 +47,7 @@ macro_rules! by_two_vectors {
 
 pub(crate) use by_two_vectors;
 
-/// Returns whether some byte is in the class, by one vector at the start and one at the end. It
-/// joins the two results by `|`, so that there is no branch between the tests.
+/// Returns whether some byte is in the class. Joining the two results by `|` avoids a branch.
 #[inline(always)]
 pub fn any_in_ends<C: InVectors<N>, const N: usize>(bytes: &[u8]) -> bool
     requires { (N ≤ LANES) × (N ≤ length bytes.now) × (length bytes.now ≤ 2 * N) }
@@ -60,7 +58,6 @@ pub fn any_in_ends<C: InVectors<N>, const N: usize>(bytes: &[u8]) -> bool
     has::<C, N>(front) | has::<C, N>(end)
 }
 
-/// Returns the last `N` bytes.
 #[inline(always)]
 pub(crate) fn end_vector<const N: usize>(bytes: &[u8]) -> Simd<u8, N>
     requires { (N ≤ LANES) × (N ≤ length bytes.now) }
@@ -69,8 +66,7 @@ pub(crate) fn end_vector<const N: usize>(bytes: &[u8]) -> Simd<u8, N>
     Simd::from_slice(&bytes[bytes.len() - N..])
 }
 
-/// Copies bytes to the start of a buffer. It is correct for every length, and faster than a call of
-/// `memmove` for short slices.
+/// Copies any slice to the start of a buffer, a short one faster than a call of `memmove` would.
 #[inline(always)]
 pub fn copy_short(bytes: &[u8], buf: &mut [u8])
     requires { length bytes.now ≤ length buf.old }
@@ -104,7 +100,6 @@ fn copy_long(bytes: &[u8], buf: &mut [u8])
     buf[..bytes.len()].copy_from_slice(bytes);
 }
 
-/// Copies bytes by one vector at the start and one at the end, which cover them all.
 #[inline(always)]
 fn copy_ends<const N: usize>(bytes: &[u8], buf: &mut [u8])
     requires lanes { (N ≤ LANES) × (N ≤ length bytes.now) × (length bytes.now ≤ 2 * N) }

@@ -1,7 +1,6 @@
-//! Searches for a byte of a class by vectors of each width, for the kernels of
-//! `implementation::simd`, which are as the Rust crate describes them. `crates/bytes_tests` passes
-//! another `fallback`, to see when it is called. The codec does not use these kernels: `search.rt`
-//! is faster, since it ends with one vector that may overlap.
+//! Searches for a byte of a class by vectors of each width, for `implementation::simd`, whose
+//! kernels are as the Rust crate describes them. `crates/bytes_tests` passes another `fallback`, to
+//! see when it is called. The codec uses `search.rt`, which is faster: its last vector may overlap.
 
 ghost use Rattle.std.specs.Prelude.{◌≡◌, ◌≤◌, ◌<◌, ◌↔◌, IsTrue, IfSome, IfNone, length};
 ghost use Rattle.cesu8_bytes.specs.Kernels.{AnyIn, MayTest, Finds};
@@ -10,8 +9,7 @@ use super::class::{InAllVectors, InVectors, LANES};
 use super::groups::InGroups;
 use super::search::{any_in_chunks, any_in_each};
 
-/// Returns whether some byte is in a class. Vectors of 64 bytes test as many whole chunks as there
-/// are, narrower vectors test the bytes that are left, and `fallback` tests a single last byte.
+/// Returns whether some byte is in the class. `fallback` tests a single byte that is left over.
 #[inline(always)]
 pub fn any_by_widths<C, F>(value: &[u8], fallback: F) -> bool
 where

@@ -14,13 +14,11 @@ use std::simd::prelude::*;
 
 /// The width of the vectors that append 17 to 64 bytes: four of them cover `LANES`.
 const WIDE: usize = 16;
-/// The width of the vectors that append 4 to 16 bytes: four of them cover `WIDE`. Fewer bytes are
-/// appended one by one.
+/// The width of the vectors that append 4 to 16 bytes: four of them cover `WIDE`.
 const NARROW: usize = 4;
 
-/// Appends bytes to a buffer with enough capacity. Short slices use only two widths of vectors,
-/// since a branch for each width would mostly be mispredicted. From 1,024 bytes on, a copy of the
-/// slice as a whole is faster.
+/// Appends bytes. Short slices use only two widths of vectors, since a branch for each width would
+/// mostly be mispredicted. From 1,024 bytes on, a copy of the slice as a whole is faster.
 #[inline(always)]
 pub fn append(bytes: &[u8], out: &mut Vec<u8>)
     requires { vec_len out.old + length bytes.now ≤ vec_capacity out.old }
@@ -37,9 +35,8 @@ pub fn append(bytes: &[u8], out: &mut Vec<u8>)
     *out = taken;
 }
 
-/// Appends the first `len` bytes of at least 64, to a buffer with enough capacity for all of them.
-/// If `len` is at most 64, it copies 64 bytes and truncates: a variable length would be
-/// mispredicted.
+/// Appends the first `len` bytes of at least 64. If `len` is at most 64, it copies 64 bytes and
+/// truncates: a variable length would be mispredicted.
 #[inline(always)]
 pub fn append_prefix(bytes: &[u8], len: usize, out: &mut Vec<u8>)
     requires lanes { LANES ≤ length bytes.now }

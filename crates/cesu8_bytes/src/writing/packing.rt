@@ -11,11 +11,9 @@ use crate::BLOCK;
 use rows_of_eight::rows_of_eight;
 use std::simd::prelude::*;
 
-/// How many bytes the store of a packed row writes. Those after the kept lanes are garbage, for
-/// which a buffer needs space too.
+/// How many bytes the store of a packed row takes: the kept lanes, and garbage after them.
 pub const STORED: usize = 16;
-/// Half a block: the 16 lanes from which `swizzle_dyn_within` selects. A row of a shuffle table has
-/// as many numbers.
+/// Half a block: the 16 lanes from which `swizzle_dyn_within` selects.
 pub const HALF: usize = BLOCK / 2;
 
 /// Stores 32 bytes without those that are dropped, and returns the offset after them. Bit `i` of
@@ -36,8 +34,7 @@ pub fn store_kept(bytes: u8x32, dropped: usize, out: &mut [u8], at: usize) -> us
     store_eight(second_of(third), dropped >> 24 & 0xFF, out, at)
 }
 
-/// Stores eight bytes without those that are dropped, and returns the offset after them. The last
-/// number of a row is how many bytes it keeps.
+/// Like `store_kept`, for eight bytes. The last number of a row is how many bytes it keeps.
 #[inline(always)]
 fn store_eight(lanes: u8x16, dropped: usize, out: &mut [u8], at: usize) -> usize
     requires small { dropped < 0x100 }
@@ -60,8 +57,7 @@ pub fn second_of(lanes: u8x16) -> u8x16
 }
 
 /// Returns the lanes that the lower halves of the row's numbers select. The upper halves, which no
-/// row has, are cleared because `swizzle_dyn_within` requires a number below 16 for each lane that
-/// it selects.
+/// row has, are cleared: to select a lane, `swizzle_dyn_within` requires a number below 16.
 #[inline(always)]
 pub fn picked(lanes: u8x16, row: u8x16) -> u8x16
     ensures { result ≡ lanes_at lanes row }

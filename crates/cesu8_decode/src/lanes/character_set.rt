@@ -11,13 +11,11 @@ ghost use Rattle.cesu8_decode.specs.Following.{CharacterSet as AnySet, Encoded a
 use cesu8_bytes::BLOCK;
 use std::simd::prelude::*;
 
-/// The rule of a set: whether it has surrogate pairs and C0 80, and three tables. The class of a
-/// pair of bytes is the bits that three table entries have in common: by the upper half of the
-/// first byte, by its lower half, and by the upper half of the second.
+/// The rule of a set. The class of a pair of bytes is the bits that three table entries share: by
+/// the upper half of the first byte, its lower half, and the upper half of the second.
 #[derive(Clone, Copy)]
 pub struct Rule {
-    /// Whether the set has the characters that need conversion: surrogate pairs, and C0 80 in
-    /// MUTF-8.
+    /// Whether the set has what needs conversion: surrogate pairs, and C0 80 in MUTF-8.
     pub has_changed: bool,
     pub by_high: [u8; 16],
     pub by_low: [u8; 16],
@@ -100,8 +98,7 @@ const UNCHANGED: Rule = Rule {
     ],
 };
 
-/// How many preceding bytes decide whether a byte can follow: the fifth byte of a surrogate pair
-/// depends on the first, ED.
+/// How many earlier bytes decide about a byte: the fifth of a surrogate pair depends on the first.
 pub const DECIDING: usize = 4;
 
 /// 32 bytes, and for each of them the bytes one to four places earlier. Only a set with surrogate
@@ -122,15 +119,13 @@ pub trait CharacterSet {
     fn rule() -> Rule
         ensures { result ≡ rule set };
 
-    /// Returns the block at an offset. The caller has loaded its 32 bytes; this loads only the
-    /// earlier bytes that the rule needs.
+    /// Returns the block at an offset, with only those earlier bytes that the rule needs.
     fn block_at(block: u8x32, bytes: &[u8], at: usize) -> Block
         requires at { (DECIDING ≤ at) × (at + BLOCK ≤ length bytes.now) }
         requires block { block ≡ take BLOCK (drop at bytes.now) }
         ensures { IsBlockAt set bytes.now (at - DECIDING) result };
 }
 
-/// All encoded characters.
 pub struct Encoded;
 
 impl CharacterSet for Encoded {
@@ -153,7 +148,6 @@ impl CharacterSet for Encoded {
     }
 }
 
-/// The characters that are unchanged in UTF-8.
 pub struct Unchanged;
 
 impl CharacterSet for Unchanged {

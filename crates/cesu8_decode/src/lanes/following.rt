@@ -1,10 +1,9 @@
 //! Vector tests of which bytes can follow which in whole characters of a set.
 //!
 //! Two adjacent bytes have a class: the second is, for example, the third byte of a character or
-//! the second byte of a low surrogate. The three bytes before the two say which class is required.
-//! If the class is the required one for every byte, all bytes are in characters of the set, except
-//! that the last character may be cut off. A pair of bytes that no character of the set has is of a
-//! class that is never required.
+//! the second byte of a low surrogate. The three bytes before them say which class is required. If
+//! every byte has the required class, all bytes are in characters of the set, the last of which may
+//! be cut off. A pair that no character of the set has is of a class that is never required.
 
 ghost use Rattle.std.specs.Prelude.{◌≡◌, ℕ, List, ◌+◌, ◌*◌, ◌-◌, ◌<◌, ◌≤◌, ◌++◌, ◌==◌, ◌&&◌, IsTrue, false, length, map, drop, if◌then◌else◌, not};
 ghost use Rattle.std.specs.List.{range_with_len};
@@ -20,9 +19,8 @@ use cesu8_bytes::lanes::class::{Equal, NonAscii, bits, mask};
 use cesu8_bytes::lanes::runs::lanes_before;
 use std::simd::prelude::*;
 
-/// Returns the block of 32 bytes that follow `before`. The first block follows zeros: any ASCII
-/// would be correct, if `after_fillers` of specs/Following used it too, but zeros take the fewest
-/// instructions.
+/// Returns the block after `before`. The first block follows zeros: any ASCII would be correct, if
+/// `after_fillers` of specs/Following used it too, but zeros take the fewest instructions.
 #[inline(always)]
 pub fn block_after(before: u8x32, bytes: u8x32) -> Block
     ensures { (set : AnySet) → IsBlockAt set (drop (BLOCK - DECIDING) (before ++ bytes)) 0 result }
@@ -36,8 +34,7 @@ pub fn block_after(before: u8x32, bytes: u8x32) -> Block
     }
 }
 
-/// Returns the offset in the block of the first byte that cannot follow the bytes before it, or the
-/// length of the block if there is none.
+/// Returns the offset of the first byte that cannot follow those before it, or 32 if there is none.
 #[inline(always)]
 pub fn following_len<F: Flavor, S: CharacterSet>(block: Block) -> usize
     ensures within { (window : List ℕ) (at : ℕ) → IsBlockAt S.set window at block → result ≤ BLOCK }
@@ -81,7 +78,6 @@ fn error_mask<F: Flavor, S: CharacterSet>(block: Block) -> u8x32
         .select(u8x32::splat(0), u8x32::splat(0xFF))
 }
 
-/// Returns the class of each pair of bytes.
 #[inline(always)]
 fn pair_classes<F: Flavor, S: CharacterSet>(first: u8x32, second: u8x32) -> u8x32
     ensures { result ≡ zip2 (pair_class S.set F.flavor) first second }
@@ -111,9 +107,8 @@ fn kept_of_null<S: CharacterSet>(bytes: u8x32) -> u8x32
     u8x32::splat(0xFF)
 }
 
-/// Returns the class that each byte is required to have, by the bytes two, three and four places
-/// earlier: `TWO_CONTS` for the third byte of a character, `SURROGATE` for the second byte of a low
-/// surrogate, and otherwise 0.
+/// Returns the class that each byte must have: `TWO_CONTS` for the third byte of a character,
+/// `SURROGATE` for the second byte of a low surrogate, and otherwise 0.
 #[inline(always)]
 fn required_classes<S: CharacterSet>(
     four_before: u8x32,

@@ -12,12 +12,10 @@ use cesu8_bytes::flavor::Flavor;
 use cesu8_bytes::lanes::class::{AtLeast, Equal, LANES, NonAscii, Null, bits};
 use std::simd::prelude::*;
 
-/// How many of 64 offsets can be decided: a character that begins there ends within the 64 bytes,
-/// since no character is longer than six bytes.
+/// How many of 64 offsets can be decided, since a character of six bytes still ends within the 64.
 pub const STEP: usize = LANES - 5;
 
-/// The starts of characters: bit `i` of each mask but `others` is set if a character of the mask's
-/// form begins at offset `i`.
+/// Bit `i` of each mask but `others` is set if a character of the mask's form begins at offset `i`.
 #[derive(Clone, Copy)]
 pub struct Masks {
     /// Bytes that are not a character of one byte: bytes that are not ASCII, and in MUTF-8 also 00.
@@ -32,8 +30,7 @@ pub struct Masks {
     pub nulls: u64,
 }
 
-/// Returns the masks for the first `count` bytes, as if zeros followed the last lane. Most masks
-/// are computed only if `others` is not 0.
+/// Returns the masks for the first `count` bytes, as if zeros followed the last lane.
 #[inline(always)]
 pub fn masks_of<F: Flavor, const N: usize>(lanes: Simd<u8, N>, count: usize) -> Masks
     requires lanes { N ≤ LANES }
@@ -70,7 +67,6 @@ pub fn masks_of<F: Flavor, const N: usize>(lanes: Simd<u8, N>, count: usize) -> 
     }
 }
 
-/// Returns a mask in which the lowest `count` bits are set.
 #[inline(always)]
 #[tactic(auto, using(crate::proofs::decoder::MaskReturns::first_bits_returned))]
 fn first_bits(count: usize) -> u64

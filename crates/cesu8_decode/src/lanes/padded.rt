@@ -9,7 +9,6 @@ use cesu8_bytes::lanes::padded::padded_half;
 use cesu8_bytes::writing::offsets::put_lanes;
 use std::simd::prelude::*;
 
-/// Returns at most 64 bytes, padded with zeros.
 #[inline(always)]
 pub fn padded(bytes: &[u8]) -> u8x64
     requires { length bytes.now ≤ LANES }

@@ -1,8 +1,7 @@
 //! The events in a window of at most 64 bytes, and where its last character ends.
 //!
-//! The masks of the characters that begin at each offset show which bytes these characters cover. A
-//! byte that no character covers is ill-formed. The next window begins where the last character of
-//! this one ends, so a window depends on nothing before it.
+//! The masks of the characters that begin at each offset show which bytes these cover. The next
+//! window begins where the last character of this one ends, so it depends on no earlier bytes.
 
 ghost use Rattle.std.specs.Prelude.{◌≡◌, ℕ, List, ◌+◌, ◌-◌, ◌++◌, ◌<◌, ◌≤◌, ◌⊎◌, true, length, replicate, slice_index};
 ghost use Rattle.cesu8_decode.specs.DecodedOffsets.{is_boundary_at, window_of};
@@ -31,9 +30,8 @@ pub struct Window {
     pub len: usize,
 }
 
-/// Returns the window of the characters that begin at the next `count` offsets. `at` is a character
-/// boundary. With at most `STEP` offsets these characters end within the 64 bytes from `at` on.
-/// `count` may be up to 64 if the five bytes after those 64 are zeros or missing.
+/// Returns the window of the characters that begin at the next `count` offsets: up to `STEP`, so
+/// that they end within 64 bytes, or up to 64 if the five bytes after those are zeros or missing.
 #[inline(always)]
 pub fn window_at<F: Flavor>(bytes: &[u8], at: usize, count: usize) -> Window
     requires bytes { at + LANES ≤ length bytes.now }
