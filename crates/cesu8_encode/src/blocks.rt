@@ -4,9 +4,6 @@
 //! it. Four loads that begin one byte apart put these four bytes into the same lane of four
 //! vectors. Eight bytes become a row of sixteen lanes. One shuffle packs the lanes that are
 //! written. The row is stored whole, and the next row overwrites what lies after its end.
-//!
-//! A block inside a string can be copied if no byte of it changes, nor one of the two before it. If
-//! only null characters change, no neighbor matters, and computing the lanes takes fewer steps.
 
 ghost use Rattle.std.specs.Prelude.{◌≡◌, List, Bool, ◌+◌, ◌*◌, ◌-◌, ◌<◌, ◌≤◌, ◌++◌, length, take, count_ones, IsTrue};
 ghost use Rattle.std.specs.Simd.Lanes.{chunk, mask_l};
@@ -26,8 +23,7 @@ use std::simd::prelude::*;
 /// The bytes before a block that are read with it, since they decide what its bytes become.
 pub const READ_BEFORE: usize = 2;
 
-/// The bytes after a block that are read with it: of the four bytes `a b c d` of a character, `a`
-/// and `b` take bits of the next one.
+/// The bytes after a block that are read with it: a byte may also take bits of the next one.
 pub const READ_AFTER: usize = 1;
 
 /// The bytes that are read to encode a block: its window.
@@ -39,8 +35,7 @@ pub const ROW: usize = 8;
 /// The bytes that are stored for the rows of a block. Its encoding has at most as many.
 pub const BLOCK_ENCODED: usize = 2 * BLOCK;
 
-/// Encodes the first `count` bytes of the block in a window, which begins `READ_BEFORE` bytes into
-/// it, and returns the end of what it wrote.
+/// Encodes the first `count` bytes of a window's block, and returns the end of what it wrote.
 #[inline(always)]
 pub fn write_block<F: Flavor>(window: &[u8], count: usize, out: &mut [u8], end: usize) -> usize
     requires window { BLOCK_READ ≤ length window.now }
@@ -80,8 +75,7 @@ fn write_rows_by_call<F: Flavor>(window: &[u8], count: usize, out: &mut [u8], en
 
 /// Encodes the first `count` bytes of the block that begins `READ_BEFORE` bytes after `at`, and
 /// returns the end of what it wrote. The last row has at least `ROW` bytes, and its vector twice as
-/// many. So all rows fit if at least `ROW` bytes are written after the block, and what lies after
-/// its end is then overwritten.
+/// many. So all rows fit if at least `ROW` bytes are written after the block.
 #[inline(always)]
 pub fn write_rows<F: Flavor>(
     window: &[u8],
@@ -100,7 +94,7 @@ pub fn write_rows<F: Flavor>(
     store_block(&block, count, out, end)
 }
 
-/// Returns true only if the block is unchanged, whatever byte follows it.
+/// Returns true only if neither the block nor the two bytes before change, whatever byte follows.
 #[inline(always)]
 pub fn is_unchanged<F: Flavor>(window: &[u8], at: usize) -> bool
     requires { at + BLOCK_READ ≤ length window.now }
@@ -112,7 +106,7 @@ pub fn is_unchanged<F: Flavor>(window: &[u8], at: usize) -> bool
 }
 
 /// Like `write_rows`, for a whole block of a window without a byte of F0 or more (hexadecimal).
-/// Null characters become C0 80.
+/// Null characters become C0 80, and no neighbor matters, so computing the lanes takes fewer steps.
 #[inline(always)]
 pub fn write_nulls<F: Flavor>(window: &[u8], at: usize, out: &mut [u8], end: usize) -> usize
     requires window { at + BLOCK_READ ≤ length window.now }

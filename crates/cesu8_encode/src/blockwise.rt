@@ -56,15 +56,13 @@ fn write_first_block<F: Flavor>(text: &[u8], out: &mut [u8]) -> usize
     ensures { Writes F.flavor text.now BLOCK out.old out.new result }
 {
     let mut window = [0; BLOCK_READ];
-    // Zeros stand for the bytes before the block.
     window[READ_BEFORE..].copy_from_slice(&text[..BLOCK + READ_AFTER]);
     write_block::<F>(&window, BLOCK, out, 0)
 }
 
 /// Encodes the blocks between the first and the last, and returns the end of what it wrote.
-/// `blocks` is the number of blocks before the last, including the first. The strategy `NullChange`
-/// is correct only if no byte is F0 or more (hexadecimal), and `middle_of` chooses it only then.
-/// The others are correct for any string.
+/// `blocks` is the number of blocks before the last, including the first. `NullChange` requires
+/// that no byte is F0 or more (hexadecimal), and `middle_of` chooses it only then.
 #[inline(always)]
 fn write_middle<F: Flavor>(
     text: &[u8],
@@ -118,8 +116,7 @@ fn write_middle_by<F: Flavor>(
     }
 }
 
-/// Like `write_middle_by`. It is inlined for each strategy, so that the loop does not test which
-/// one it is.
+/// Like `write_middle_by`. It is inlined for each strategy, so its loop need not test which it is.
 #[inline(always)]
 fn write_each_block<F: Flavor>(
     text: &[u8],
@@ -150,7 +147,6 @@ fn write_last_block<F: Flavor>(text: &[u8], at: usize, out: &mut [u8], end: usiz
     ensures { Writes F.flavor text.now (length text.now) out.old out.new result }
 {
     let mut window = [0; BLOCK_READ];
-    // Zeros stand for the bytes after the block.
     let near = &text[at - READ_BEFORE..];
     window[..near.len()].copy_from_slice(near);
     write_block::<F>(&window, text.len() - at, out, end)

@@ -12,15 +12,11 @@
 //! In MUTF-8 the byte 00 becomes C0 80. Every other byte is unchanged. So eight bytes become a row
 //! of sixteen lanes, and one shuffle packs those that are written.
 //!
-//! Between the first block and the last, one branch copies blocks in which no byte changes. If many
-//! bytes change, as the length of the encoding shows, there is no such branch, and MUTF-8 tests
-//! once whether only null characters change.
-//!
 //! - `blocks`: encodes one block
 //! - `rows`: the shuffles
 //! - `blockwise`: the loop over the blocks of a string
 //! - `middle_blocks`: what that loop does with a block inside the string
-//! - `strategy`: which strategy is used for which string
+//! - `strategy`: which strategy is used for which string, and when unchanged blocks are copied
 //!
 //! This file builds or appends an encoding, and `to_slice` writes it to a caller's buffer. The
 //! crate is internal and may change at any time. `simd_cesu8` has the public calls.
@@ -50,10 +46,9 @@ use std::alloc::{AllocError, Global};
 /// The length of the longest encoding that is written to the stack.
 const ON_STACK_ENCODED: usize = 2 * ON_STACK;
 
-/// Returns the encoding of a string, with one allocation of exactly its length. At most `ON_STACK`
-/// bytes are encoded to an array on the stack, without counting first. A block uses a smaller
-/// array, which is zeroed faster. This function is out of line, so that callers that borrow use no
-/// stack. `encode_on_stack` is inlined, so that `write` does not test the string's length again.
+/// Returns the encoding of a string, with one allocation of exactly its length. `strategy` says why
+/// there are three cases. This function is out of line, so that callers that borrow use no stack.
+/// `encode_on_stack` is inlined, so that `write` does not test the length again.
 #[inline(never)]
 pub fn encode<F: Flavor>(alloc: Global, text: &str) -> Result<Vec<u8>, AllocError>
     ensures { BuildsEncoding F.flavor text.now result }
@@ -86,8 +81,7 @@ fn encode_on_stack<F: Flavor, const N: usize>(
     copy(alloc, &written[..len])
 }
 
-/// Appends the encoding of a string. `len` is the length of the encoding. If the capacity is too
-/// small, it allocates once.
+/// Appends a string's encoding, of `len` bytes. If the capacity is too small, it allocates once.
 #[tactic(auto, using(cesu8_text::proofs::encoding::NeedsEncoding::encoding_as_long))]
 pub fn encode_into<F: Flavor>(text: &str, len: usize, out: &mut Vec<u8>) -> Result<(), AllocError>
     requires { len ≡ length (encoding F.flavor (chars text.now)) }
@@ -103,8 +97,7 @@ pub fn encode_into<F: Flavor>(text: &str, len: usize, out: &mut Vec<u8>) -> Resu
     Ok(())
 }
 
-/// Reserves capacity for `len` more bytes. If the capacity is enough, it is unchanged and nothing
-/// is allocated, as `stays` promises.
+/// Reserves capacity for `len` more bytes. If the capacity is enough, nothing is allocated.
 fn make_room(len: usize, out: &mut Vec<u8>) -> Result<(), AllocError>
     ensures items { out.new.items ≡ out.old.items }
     ensures ok { OnOk result (vec_len out.new + len ≤ vec_capacity out.new) }

@@ -14,8 +14,7 @@ use cesu8_bytes::writing::offsets::put_lanes;
 use std::simd::prelude::*;
 
 /// Encodes the whole block that begins `READ_BEFORE` bytes after `at`, and returns the end of what
-/// it wrote. A row of `ROW` bytes is stored as twice as many. So the last row fits if there is
-/// space for that after the encoding of the bytes before it (`rows`).
+/// it wrote. The last `ROW` bytes are stored as twice as many, for which `rows` requires space.
 #[inline(always)]
 pub fn write_middle_block<F: Flavor>(
     text: &[u8],

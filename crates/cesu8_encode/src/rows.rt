@@ -5,9 +5,8 @@ ghost use Rattle.cesu8_encode.specs.EncodedOffsets.{AreShuffles};
 use cesu8_bytes::Rows;
 
 // Expands to the rows for the given bytes. Each byte is a pair: the lane of the last byte that is
-// written for it, and the lane of the one before that. Each pair doubles the number of rows: after
-// those that keep only its first lane come those that keep both. A row has the lanes that it keeps,
-// and then a 0 for each lane that it drops.
+// written for it, and that of the one before. Each doubles the number of rows: after those that
+// keep only its first lane come those that keep both. A row ends with a 0 for each dropped lane.
 macro_rules! rows {
     (
         $([$($kept:literal)*] [$($zero:literal)*])*;

@@ -1,22 +1,19 @@
 //! Which strategy encodes a string. No other file of this crate decides that.
 //!
-//! A string of at most a block, 32 bytes, is encoded as one block, and a longer one as several.
+//! A string of at most 32 bytes is encoded as one block, and a longer one as several. An encoding
+//! is at most twice as long as the string. So `encode` writes that of a string of at most 128 bytes
+//! to the stack before its length is known, and copies it: counting first takes longer. One block
+//! goes to an array of 64 bytes, since a larger array takes longer to zero. Strings of more than
+//! 128 bytes, and those whose encoding has a known length (`encode_into`), are encoded in place.
 //!
-//! An encoding is at most twice as long as the string. So `encode` writes the encoding of a string
-//! of at most 128 bytes to the stack before its length is known, and copies it: counting first takes
-//! longer. A string of at most a block goes to an array of 64 bytes, since a larger one takes longer
-//! to zero. Strings of more than 128 bytes, and those whose encoding has a known length
-//! (`encode_into`), are encoded in place.
-//!
-//! To a caller's slice, a string of more than a block is counted, and encoded in place. A string of
-//! at most a block goes through the stack: its only block is stored as whole rows, and the slice
-//! after the encoding must not change.
+//! To a caller's slice, a string of more than a block is counted, and encoded in place. One block
+//! goes through the stack: it is stored as whole rows, and what follows it must not change.
 //!
 //! These strategies are tests, not an enum: computing its value cost `encode` 13 instructions.
 //!
 //! The blocks between the first and the last have bytes of the string on both sides. How these are
-//! encoded depends on the growth: how many bytes longer than the string the encoding is. A null grows
-//! by one byte, and a surrogate pair by two. The first row that applies decides:
+//! encoded depends on the growth: how many bytes longer than the string the encoding is. A null
+//! grows by one byte, and a surrogate pair by two. The first row that applies decides:
 //!
 //! | growth, in bytes                              | `Middle`        | a block is         |
 //! |-----------------------------------------------|-----------------|--------------------|
@@ -25,12 +22,11 @@
 //! | fewer than three for four blocks              | `CopyUnchanged` | copied, or encoded |
 //! | more                                          | `AnyChange`     | encoded            |
 //!
-//! The second row is for MUTF-8 only. `CopyUnchanged` copies a block in which nothing changes. That
-//! takes the least time, but which blocks change is often mispredicted, and a misprediction costs
-//! as much as encoding a block. So no block is copied if about a quarter of them change. With
-//! surrogate pairs it is a third, since such a block takes longer to encode. The average over the
-//! string decides: if one part of it is dense with pairs, the blocks of other parts are encoded
-//! although they could be copied.
+//! The second row is for MUTF-8 only. Copying a block takes the least time, but which blocks change
+//! is often mispredicted, and a misprediction costs as much as encoding a block. So no block is
+//! copied if about a quarter of them change. With surrogate pairs it is three eighths, since such a
+//! block takes longer to encode. The average over the string decides: if one part of it is dense
+//! with pairs, blocks of other parts are encoded although they could be copied.
 //!
 //! | `Middle`        | is the fastest for                                                       |
 //! |-----------------|--------------------------------------------------------------------------|
@@ -71,8 +67,7 @@ pub fn is_for_stack(text: &str) -> bool
 #[derive(Clone, Copy)]
 pub enum Middle {
     /// Copies a block if neither it nor the two bytes before it change. A character of four bytes
-    /// that begins three bytes before the block changes none of the block's bytes. Most text has
-    /// long runs of bytes that do not change.
+    /// that begins three bytes before the block changes none of the block's bytes.
     CopyUnchanged,
     /// Encodes null characters only: no other byte changes, since none is F0 or more.
     NullChange,
@@ -81,8 +76,7 @@ pub enum Middle {
 }
 
 /// Returns the strategy for the blocks between the first and the last of a string. `more` is the
-/// number of bytes by which the encoding is longer than the string, or 0 if that is not known.
-/// `blocks` is the number of blocks before the last.
+/// growth, or 0 if that is not known. `blocks` is the number of blocks before the last.
 #[inline(always)]
 pub fn middle_of<F: Flavor>(text: &[u8], more: usize, blocks: usize) -> Middle
     requires { LANES < length text.now }

@@ -15,7 +15,7 @@ use cesu8_bytes::lengths::encoded_len;
 use cesu8_bytes::writing::copies::{NoRoom, copy_to_slice};
 
 /// Writes the encoding of a string to the start of a caller's buffer, if it fits, and returns its
-/// length. Encoding is out of line, so that a string that does not change uses no stack.
+/// length. Encoding is out of line, so that an unchanged string uses no stack and clears no array.
 #[inline(always)]
 pub fn encode_to_slice<F: Flavor>(text: &str, buf: &mut [u8]) -> Result<usize, NoRoom>
     ensures { PutsAnswer (encoding F.flavor (chars text.now)) result buf.old buf.new }
@@ -33,8 +33,7 @@ pub fn encode_to_slice<F: Flavor>(text: &str, buf: &mut [u8]) -> Result<usize, N
     encode_in_place::<F>(text, buf)
 }
 
-/// Encodes at most a block to the stack, and copies the result. It is not inlined, so that only a
-/// call clears the array.
+/// Encodes at most a block to the stack, and copies the result.
 #[inline(never)]
 #[tactic(auto, using(cesu8_text::proofs::encoding::Lengths::length_encoding_chars))]
 fn encode_block_to_slice<F: Flavor>(text: &str, buf: &mut [u8]) -> Result<usize, NoRoom>
@@ -47,8 +46,7 @@ fn encode_block_to_slice<F: Flavor>(text: &str, buf: &mut [u8]) -> Result<usize,
     copy_to_slice(&written[..len], buf)
 }
 
-/// Counts the length of the encoding, and encodes in place. It is not inlined, so that a string
-/// that does not change uses no stack.
+/// Counts the length of the encoding, and encodes in place.
 #[inline(never)]
 #[tactic(auto, using(crate::proofs::encoder::EncodedLengths::no_shorter))]
 fn encode_in_place<F: Flavor>(text: &str, buf: &mut [u8]) -> Result<usize, NoRoom>

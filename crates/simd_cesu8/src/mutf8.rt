@@ -2,7 +2,8 @@
 //! C0 80. So no byte of an encoding is 00. Java writes a string's length in two bytes before it.
 //! These are not part of the encoding here; the crate `java_text` reads and writes them.
 //!
-//! Each call does for MUTF-8 what the call of the same name in the crate root does for CESU-8.
+//! Each call does for MUTF-8 what the call of the same name in the crate root does for CESU-8. The
+//! documentation there says what it returns, which errors, when it borrows and what it allocates.
 //!
 //! ```rust
 //! let built = simd_cesu8::mutf8::encode(alloc, "a\0")?;

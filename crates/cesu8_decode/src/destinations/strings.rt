@@ -53,8 +53,8 @@ pub fn write_strictly<F: Flavor>(
     write_many::<F>(bytes, prefix.len, empty)
 }
 
-/// Split off from `write_strictly`, so that at most 64 bytes skip the zeroing of result slots: a
-/// function zeroes them first, even if it is inlined.
+/// Writes the text of more than 64 bytes. It is split off from `write_strictly`, so that at most 64
+/// bytes skip the zeroing of result slots: a function zeroes them first, even if it is inlined.
 #[inline(always)]
 fn write_many<F: Flavor>(bytes: &[u8], prefix: usize, empty: Vec<u8>) -> Result<Vec<u8>, NoText>
     requires many { LANES < length bytes.now }
@@ -114,7 +114,8 @@ fn build_by_array<F: Flavor, const WRITTEN: usize>(
     copy(alloc, &written[..end])
 }
 
-/// Builds the text of more than 4,096 bytes. A length over `usize` is reported as `AllocError`.
+/// Builds the text of more than 4,096 bytes. A length that does not fit `usize` is reported as a
+/// failed allocation. The first part is decoded before the rest is counted.
 #[inline(never)]
 fn build_chunks<F: Flavor>(alloc: Global, bytes: &[u8]) -> Result<Vec<u8>, AllocError>
     requires { LARGEST_ARRAY < length bytes.now }
