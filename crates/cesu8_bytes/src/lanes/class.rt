@@ -74,12 +74,15 @@ pub fn mask<C: InVectors<32>>(bytes: u8x32) -> u8x32
 pub struct NoByte;
 /// The one byte `BYTE`.
 pub struct Equal<const BYTE: u8>;
+/// The byte 00.
 pub type Null = Equal<0>;
 /// F0 to F7 (hexadecimal). The kernels, whose input may be any bytes, need exactly this class.
 pub struct FourByteLead;
+/// `BYTE` and all greater bytes.
 pub struct AtLeast<const BYTE: u8>;
 /// F0 (hexadecimal) or more: in UTF-8 the four-byte leads, found by one comparison.
 pub type AtLeastF0 = AtLeast<0xF0>;
+/// 80 (hexadecimal) or more: not ASCII.
 pub type NonAscii = AtLeast<0x80>;
 /// The bytes that are in `A` or in `B`.
 pub struct Either<A, B>(PhantomData<(A, B)>);

@@ -34,6 +34,7 @@ impl CountsOne for OneUnit {
 
 /// The vectors in a block. More of them would save sums, but leave more bytes to masks.
 const VECTORS_IN_LANES: usize = 16;
+/// The bytes in a block.
 const BYTES_IN_LANES: usize = VECTORS_IN_LANES * LANES;
 
 /// Returns the sum of the bytes' weights. Up to 64 bytes are counted inline.
