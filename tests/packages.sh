@@ -4,12 +4,12 @@
 # compiler alone, with pkg-config and with CMake, and runs the programs. Then it removes them.
 #
 # It also tests that release/packages.sh builds the same bytes again; that no file is in two
-# packages; the hashes, owners, modes and times; and the needed symbols and C library, by comparing
-# them with the files themselves and with what dpkg-gensymbols and dpkg-shlibdeps find. `lintian`
-# must report no error.
+# packages; and the hashes, owners, modes and times. It compares the exported symbols with the version
+# map, and the needed C library with the files; both also with what dpkg-gensymbols and
+# dpkg-shlibdeps find. `lintian` must report no error.
 #
-# The packages for arm64 are installed together with those for amd64, also with apt, and used there as C.md
-# says, in an emulator.
+# The packages for arm64 are installed together with those for amd64, with apt if it is installed and
+# otherwise with dpkg, and used there as C.md says, in an emulator.
 #
 # RELEASE names the folder that release/dist.sh has filled; if it is not set, this script runs
 # dist.sh. Without dpkg-deb it skips everything and says so; it also says which other tools are
@@ -296,6 +296,7 @@ look_at_cross_packages() {
         [[ $(dpkg-deb --field "$(cross_file_of "$name")" Installed-Size) == \
             "$(installed_size "$(cross_file_of "$name")")" ]] ||
             wrong "$name for arm64 has another Installed-Size"
+        # The scripts among the examples run cesu8_cli, which the release for arm64 does not have.
         diff <(files_of "$name" | grep -v '/examples/.*\.sh$' | sed "s,^$libdir/,$cross_libdir/," | sort) \
             <(files_of "arm64/$name") || wrong "$name for arm64 has other files"
         (cd "$scratch/arm64/$name" && quietly md5sum --strict --check DEBIAN/md5sums) ||

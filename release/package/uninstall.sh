@@ -2,10 +2,11 @@
 # Removes what install.sh installed, and prints each file that it removes:
 #   PREFIX/share/doc/cesu8/uninstall.sh
 # It removes the files below PREFIX that the list INSTALLED beside it names; PREFIX may have been moved.
-# Then it removes the folders named cesu8 and their subfolders, if they are empty. Folders that may have
-# other users, such as bin, are not removed.
+# Then it removes the folders named cesu8 in which it removed a file, and their subfolders, if they are
+# empty. Folders that may have other users, such as bin, are not removed.
 #
-# If there is an argument, or no list, the status is 2, and nothing is removed. --help prints the usage.
+# With an argument, without a list, or elsewhere than in PREFIX/share/doc/cesu8, the status is 2, and
+# nothing is removed. --help prints the usage.
 set -eu
 unset CDPATH
 export LC_ALL=C

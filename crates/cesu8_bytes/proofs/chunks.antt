@@ -1,2 +1,2 @@
--- The words by which surrogate pairs are recognized and converted.
+-- Lemmas for `src/pairs.rt`, which reads a surrogate pair and two more bytes as one word.
 pub mod PairWords

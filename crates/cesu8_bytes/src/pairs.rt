@@ -1,4 +1,5 @@
 //! Recognizes an encoded surrogate pair and converts it to UTF-8, with eight bytes as one word.
+//! Only the decoder uses this module.
 
 ghost use Rattle.std.specs.Prelude.{◌≡◌, ◌+◌, ◌*◌, ◌≤◌, ◌↔◌, length, slice_index, IsTrue};
 ghost use Rattle.cesu8_bytes.specs.Pairs.{HasPair, IsUtf8OfDigits, second_third_fifth_sixth, word_of};
@@ -24,15 +25,16 @@ pub fn is_pair(bytes: &[u8]) -> bool
     first_word(bytes) & 0x0000_C0F0_FFC0_F0FF == PAIR_BITS
 }
 
-/// Returns the UTF-8 of the pair that begins the bytes. If none does, the result has no meaning.
+/// Returns the UTF-8 of the pair that begins the bytes. If none does, the result has no meaning:
+/// the decoder calls it for C0 80 too, to save a branch, and then does not use the result.
 #[inline(always)]
 pub fn utf8_of_pair(bytes: &[u8]) -> [u8; PAIR_UTF8]
     requires { PAIR_READ ≤ length bytes.now }
     ensures { IsUtf8OfDigits (second_third_fifth_sixth bytes.now) result }
 {
-    // A pair encodes its character less 10000 (hexadecimal), and the last four bits of the second
-    // byte say how often 10000 fits. So this adds 1 to that byte. In a pair it is below B0, so
-    // nothing is carried to the third.
+    // A pair encodes its character less 10000 (hexadecimal). The last four bits of the second byte
+    // count the 10000s that are left, so this adds 1. That byte is below B0 in a pair, so nothing
+    // is carried to the third.
     let word = first_word(bytes).wrapping_add(0x100);
     // The leading bits are F0 80 80 80. Each term puts some of the character's bits into place.
     let utf8 = 0x8080_80F0

@@ -5,19 +5,21 @@
 //! makes of the byte there: it is copied, converted, dropped, or ill-formed and replaced by U+FFFD.
 //! In strict decoding an ill-formed byte is an error.
 //!
-//! The modules, in the order in which a call uses them:
+//! The modules. The last two begin the decoding, and call those before them:
 //!
 //! - `modes`: whether a call returns its input unchanged, which depends on its mode
 //! - `lanes`: vector code for 32 or 64 bytes, with no branch on a single byte
 //! - `prefix`: the length of the prefix of whole characters that are unchanged in UTF-8
 //! - `valid`: the length of the prefix of whole encoded characters
-//! - `utf8`: whether bytes are UTF-8, which lenient calls test after the unchanged prefix
+//! - `utf8`: whether bytes are UTF-8, which lenient calls test once the unchanged prefix is found
 //! - `lengths`: the length of the decoded text
 //! - `strategy`: which strategy decodes input that needs conversion
 //! - `needs_conversion`: whether bytes begin with a character that needs conversion
 //! - `pass`: the decoding loop: one window for at most 64 bytes, successive windows for more
 //! - `destinations`: decoding to a `String` and to a caller's slice
 //! - `to_slice`: decoding to a caller's slice that copies unchanged input
+//!
+//! `error` has the errors, which `simd_cesu8` turns into its own.
 #![tactic(auto)]
 
 ghost use Rattle.std.specs.Prelude.{◌≡◌, ◌<◌, length, IfOk};
@@ -50,7 +52,8 @@ pub use lengths::{decoded_len, lossy_len};
 use std::alloc::{AllocError, Global};
 
 /// Returns the strictly decoded text, or an error if a byte is ill-formed or the allocation fails.
-/// It is not inlined, so that a call that borrows saves no register for it.
+/// `prefix` is the unchanged prefix, which is not all of the bytes. It is not inlined, so that a
+/// call that borrows saves no register for it.
 #[inline(never)]
 pub fn decode_strict<F: Flavor>(
     alloc: Global,

@@ -1,7 +1,7 @@
 //! The strategy for input that needs conversion, chosen by its length. In strict decoding of more
 //! than 64 bytes to a slice, the length is that of the bytes after the unchanged prefix.
 //!
-//! | bytes | strategy | strict | lossy |
+//! | bytes | strategy | strict, to a slice | lossy |
 //! |---|---|---|---|
 //! | at most 64 (`LANES`) | `Short` | one window | one window |
 //! | at most 256 (`SMALL_ARRAY`) | `SmallArray` | a small array | a small array |
@@ -15,12 +15,13 @@
 //!   would be mispredicted. The sizes are a matter of speed: a larger array takes longer to clear
 //!   and more stack, three bytes for each input byte in lossy decoding.
 //! - Chunks: the pass stops when its buffer is full, and continues with an empty one. A `String` is
-//!   written in place. The text for a slice is copied from a large array, after strict decoding has
-//!   validated all bytes, and after a pass for the length if that is needed.
+//!   written in place, except for what the first 4,096 bytes become in lossy decoding, and for text
+//!   that is stored when little capacity is left. The text for a slice is copied from a large array,
+//!   after strict decoding has validated all bytes, and after a pass for the length if needed.
 //!
-//! Strict decoding of more than 64 bytes to a `String` goes from one converted character to the
-//! next as long as these are far apart (`destinations::strict_append`). The rest is decoded by one
-//! window if it has at most 64 bytes, and otherwise by chunks.
+//! Strict decoding to a `String` does not use this table for more than 64 bytes. It goes from one
+//! converted character to the next as long as these are far apart (`destinations::strict_append`).
+//! The rest is decoded by one window if it has at most 64 bytes, and otherwise by chunks.
 
 ghost use Rattle.std.specs.Prelude.{◌≤◌, ◌↔◌, IsTrue, length};
 ghost use Rattle.cesu8_decode.specs.Decoding.{Takes};
@@ -37,11 +38,11 @@ pub enum Strategy {
     Chunks,
 }
 
-/// The most bytes that are decoded to the small array.
+/// The longest input of `SmallArray`. Chunks may also use an array of that size.
 pub const SMALL_ARRAY: usize = 256;
-/// The most bytes that are decoded to the large array at once.
+/// The longest input of `LargeArray`. Chunks fill an array of that size repeatedly.
 pub const LARGE_ARRAY: usize = 1024;
-/// The most bytes that lossy decoding writes to an array, so that no pass for the length is needed.
+/// The most bytes that lossy decoding decodes to an array, without a pass for the length.
 pub const LARGEST_ARRAY: usize = 4096;
 
 #[inline(always)]
@@ -57,7 +58,7 @@ pub fn strategy_of(bytes: &[u8]) -> Strategy
     }
 }
 
-/// Returns whether the bytes fit in one block, 32 bytes.
+/// Returns whether the bytes fit in one block, 32 bytes, so that half a vector of 64 is enough.
 #[inline(always)]
 pub fn is_one_block(bytes: &[u8]) -> bool
     ensures { IsTrue result ↔ length bytes.now ≤ BLOCK }

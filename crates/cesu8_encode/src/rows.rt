@@ -1,4 +1,5 @@
-//! The shuffles that pack a row of eight bytes, one for each subset of bytes that become two.
+//! The shuffles that pack a row of eight bytes, one for each subset of bytes that become two. The
+//! first and the third byte of a four-byte character do, and in MUTF-8 the byte 00.
 
 ghost use Rattle.cesu8_encode.specs.EncodedOffsets.{AreShuffles};
 
@@ -6,7 +7,7 @@ use cesu8_bytes::Rows;
 
 // Expands to the rows for the given bytes. Each byte is a pair: the lane of the last byte that is
 // written for it, and that of the one before. Each doubles the number of rows: after those that
-// keep only its first lane come those that keep both. A row ends with a 0 for each dropped lane.
+// keep only `$last` come those that keep both. A row ends with a 0 for each dropped lane.
 macro_rules! rows {
     (
         $([$($kept:literal)*] [$($zero:literal)*])*;

@@ -26,7 +26,8 @@ IsFour b = IsTrue (is_four b)
 abbrev pub IsNullFour : ℕ → Type 0
 IsNullFour b = IsTrue (is_null_four b)
 
--- The bytes of UTF-8 that the encoding changes: F0 to F7, and in MUTF-8 also 00.
+-- In UTF-8, these begin the characters that the encoding writes otherwise: F0 to F7, and in MUTF-8
+-- also 00.
 abbrev pub IsChangedByte : Flavor → ℕ → Type 0
 IsChangedByte Cesu8 = IsFour
 IsChangedByte Mutf8 = IsNullFour
@@ -35,11 +36,13 @@ IsChangedByte Mutf8 = IsNullFour
 abbrev pub IsUnchangedUtf8 : Flavor → List ℕ → Type 0
 IsUnchangedUtf8 f bytes = IsUtf8 bytes × (¬ (Any (IsChangedByte f) bytes))
 
--- Whether a byte leads a character of one UTF-16 code unit: 00 to 7F, or C0 to EF (hexadecimal).
+-- In UTF-8, whether a byte leads a character of one UTF-16 code unit: 00 to 7F, or C0 to EF
+-- (hexadecimal).
 abbrev pub is_one_unit : ℕ → Bool
 is_one_unit b = nat_lt b 0x80 || (nat_le 0xC0 b && nat_lt b 0xF0)
 
--- The weight of a byte: one if it is in the class, plus two if it is F0 to F7, which leads four
--- bytes.
+-- The weight of a byte: one if it is in the class, plus two if it is F0 to F7. Added up over UTF-8,
+-- the weights for `is_null f` are how many bytes longer the encoding is, and those for
+-- `is_one_unit` are the number of code units.
 abbrev pub weight_of : (ℕ → Bool) → ℕ → ℕ
 weight_of class b = (if class b then 1 else 0) + (if is_four b then 2 else 0)

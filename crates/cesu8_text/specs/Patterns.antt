@@ -1,4 +1,4 @@
--- Byte patterns of encoded characters.
+-- Byte patterns of encoded characters. No public contract uses them.
 use Rattle.std.specs.Prelude.{◌≡◌, ℕ, ◌+◌, ◌*◌, ◌<◌, ◌≤◌}
 
 -- A continuation byte: 80 to BF (hexadecimal).
@@ -10,8 +10,8 @@ IsContinuation b = (0x80 ≤ b) × (b < 0xC0)
 abbrev pub EndsPair : ℕ → ℕ → ℕ → ℕ → Type 0
 EndsPair a b c d = IsContinuation a × (b ≡ 0xED) × ((0xB0 ≤ c) × (c < 0xC0)) × IsContinuation d
 
--- The bits of a scalar value above FFFF, as an encoded surrogate pair has them. The pair is ED,
--- A0 + w, 80 + x, ED, B0 + y, 80 + z (numbers are hexadecimal).
+-- The bits of a scalar value c above FFFF, less 10000, as its surrogate pair has them. The pair is
+-- ED, A0 + w, 80 + x, ED, B0 + y, 80 + z (numbers are hexadecimal).
 pub record IsPair (c w x y z : ℕ) : Type 0 where
   pub value : c ≡ 0x10000 + w * 0x10000 + x * 0x400 + y * 0x40 + z
   pub first : w < 0x10

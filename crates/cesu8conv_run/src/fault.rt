@@ -1,8 +1,8 @@
-//! Why a conversion stops.
+//! Why a conversion stops. `messages.rt` prints the message of a fault and chooses the status.
 
 use std::io;
 
-/// Why a conversion did not reach the end of its input.
+/// Why a conversion failed.
 #[derive(Drop)]
 pub enum Fault {
     /// No character of the input begins at this offset. The second number says how many bytes from

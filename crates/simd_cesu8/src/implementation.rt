@@ -1,4 +1,4 @@
-//! Functions that only the other crates of this repository use: the kernels, which test whether a
+//! Functions meant only for the other crates of this repository: the kernels, which test whether a
 //! byte of a text needs conversion, and the two functions below. These names may change.
 
 ghost use Rattle.std.specs.Prelude.{◌≡◌, IfSome, IfNone, IsUtf8, take};
@@ -11,7 +11,7 @@ use crate::error::DecodeSliceFault;
 use crate::front_to_slice;
 pub use cesu8_bytes::implementation::{active, fallback, simd, word};
 
-/// Returns the bytes as a string if they are UTF-8, tested as `decode` does. It allocates nothing.
+/// Returns the bytes as a string if they are UTF-8. It allocates nothing.
 ///
 /// ```rust
 /// use simd_cesu8::implementation;
@@ -36,8 +36,8 @@ pub fn text_of(bytes: &[u8]) -> Option<&str>
 
 /// Decodes a string in MUTF-8 (Java's `DataInput`, without its length) from the start of the bytes
 /// to the caller's buffer, as `mutf8::decode_strict_to_slice` decodes the first `len` bytes, or all
-/// bytes if there are fewer. It may read the bytes after the string, which never change the result.
-/// So its time depends less on the length of short ASCII.
+/// bytes if there are fewer. It may load bytes after the string, which never change the result. So
+/// short ASCII takes no branch on its length, except whether it is at most 64.
 ///
 /// ```rust
 /// use simd_cesu8::implementation::decode_mutf8_front_to_slice;

@@ -1,5 +1,6 @@
 //! The laws of both encodings. Each function does nothing: its contract is the law, for every text
-//! and all bytes, in both flavors. docs/DEFINITIONS.md defines stretch, mark, cutting and cost.
+//! and all bytes, in both flavors unless it names one. Call it before the code whose proof needs
+//! the law. docs/DEFINITIONS.md defines stretch, mark, cutting and greedy.
 
 ghost use Rattle.simd_cesu8.specs.Laws.{RoundTrip, CharsAreText, CharsInUtf8, SameBytes, TextIsString, CharsOfUtf8, DecodedBack, NotRefused, EncodedBack, Concat, SameText, Needs, UnchangedEncoding, UnchangedString, NoZero, Bounds, NoOverlap, OneMark, Places, HasGreedyCutting, Fewest, ReadingIsText, ReadingOfEncoding, ReadAgain, LossyIsStrict, NothingReplaced, Split, HalvesJoin, Around, Middle, Trichotomy, Transitivity, SliceOrder, OrderInCesu8, KeyOrder, OrderInMutf8, NullOutOfOrder, ScalarsOutOfOrder};
 
@@ -96,8 +97,9 @@ pub fn lossy()
     ensures undamaged { NothingReplaced }
 {}
 
-/// The lossy reading of a ++ b is that of a ++ that of b exactly when no encoded character begins
-/// in a and ends in b. The halves of a surrogate pair, ill-formed apart, join to one character.
+/// The lossy reading of a ++ b is that of a and then that of b exactly when no encoded character
+/// begins in a and ends in b. The halves of a surrogate pair, ill-formed apart, join to one
+/// character.
 pub fn split()
     ensures parts { Split }
     ensures halves_join { HalvesJoin }

@@ -1,9 +1,11 @@
 //! Sums the weights of bytes of UTF-8, 64 bytes at a time: one for a byte in a class, and two for
-//! one that leads four bytes. The sum is the growth of an encoding, or the number of code units.
+//! one that leads four bytes. The sum is the growth of an encoding (class `NoByte` or `Null`), or
+//! the number of code units (`OneUnit`).
 //!
-//! In blocks of 1,024 bytes, each lane of a vector counts its own bytes, at most 16, so none
-//! overflows. In the rest, the bits of two masks are counted: of the class, and of four-byte leads.
-//! The last vector may overlap the one before it, and bits counted already are shifted out.
+//! A block has 1,024 bytes in this file, not 32 as elsewhere. In a block, each lane of a vector
+//! counts its own bytes, at most 16, so none overflows. In the rest, the bits of two masks are
+//! counted: of the class, and of four-byte leads. The last vector may overlap the one before it,
+//! and bits counted already are shifted out.
 
 ghost use Rattle.std.specs.Prelude.{◌≡◌, ℕ, ◌<◌, ◌≤◌, ◌+◌, ◌-◌, ◌*◌, length, drop, sum_by};
 ghost use Rattle.std.specs.Simd.Lanes.{sum_l};
@@ -15,7 +17,8 @@ use super::class::{FourByteLead, InAllVectors, InVectors, LANES, NoByte, Null, O
 use super::short::by_two_vectors;
 use std::simd::prelude::*;
 
-/// A class without a four-byte lead. A byte weighs at most two, so the sum of a slice fits `usize`.
+/// A class without a four-byte lead. A byte weighs at most two, and a slice has at most
+/// `isize::MAX` bytes, so its sum fits `usize`.
 pub trait CountsOne: InAllVectors {
     ghost at_most_two: { (b : ℕ) → weight_of Self.class b ≤ 2 };
 }
@@ -32,7 +35,7 @@ impl CountsOne for OneUnit {
     ghost at_most_two = { λ b. Prim.grind (arith, nat_tests) };
 }
 
-/// The vectors in a block. More of them would save sums, but leave more bytes to masks.
+/// The vectors in a block. More would save calls of `lane_sum`, but leave more bytes to masks.
 const VECTORS_IN_LANES: usize = 16;
 /// The bytes in a block.
 const BYTES_IN_LANES: usize = VECTORS_IN_LANES * LANES;

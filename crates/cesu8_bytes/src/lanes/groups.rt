@@ -36,7 +36,8 @@ impl<const BYTE: u8> InGroups for AtLeast<BYTE> {
 }
 
 impl<const BYTE: u8> InGroups for Equal<BYTE> {
-    /// Only for the byte 00 does the minimum decide. For other bytes this always returns true.
+    /// The least of four bytes is 00 if one of them is. For another `BYTE` it decides nothing, so
+    /// this returns true. Only `Null` is searched for in groups.
     #[inline(always)]
     fn may_have(a: u8x64, b: u8x64, c: u8x64, d: u8x64) -> bool {
         BYTE != 0 || has::<Self, LANES>(a.simd_min(b).simd_min(c.simd_min(d)))

@@ -1,6 +1,6 @@
--- The contract of `cesu8_stream::encode`, with a status in place of the state. A character has at
--- most 6 bytes in CESU-8. `NOT_UTF8`, the status for `Malformed`, is from 1 to 5, as the lemma
--- requires: the other states have the statuses 0, 6 and 7.
+-- The contract follows from that of `cesu8_stream::encode`: a status replaces the state. A
+-- character has at most 6 bytes in CESU-8. `NOT_UTF8`, the status for `Malformed`, is from 1 to 5,
+-- as the lemma requires: the other states have the statuses 0, 6 and 7.
 use Rattle.std.proofs.Common.{arith}
 use Rattle.simd_cesu8.specs.Text.{utf8}
 use Rattle.simd_cesu8.specs.Encoding.{Cesu8, encoding}

@@ -33,6 +33,7 @@ pub rows_are : (set : ℕ) → set < 0x10 → get_or ROWS set [] ≡ shuffle_kee
 unfolding same_list same_rows
 rows_are set small = grind (arith, same_list_is, agree_below_at, same_rows)
 
+-- `at_most` computes it for all numbers of eight bits, of which the rows use those below 16.
 four_at_most : (set : ℕ) → set < 0x100 → length (kept_by set) ≤ 12
 unfolding is_short
 four_at_most = at_most kept_by 12 refl

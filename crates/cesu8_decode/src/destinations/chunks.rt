@@ -58,6 +58,7 @@ fn append_next<F: Flavor>(
 {
     let start = out.len();
     let spare = out.capacity() - start;
+    // Any array of at least `ROOM` would do, in lossy decoding too: the pass stops when it is full.
     if spare < SMALL_STRICT {
         let mut written = [0; SMALL_STRICT];
         let pass = write_windows::<F>(bytes, read, strictness, &mut written);
@@ -83,7 +84,8 @@ pub fn append_by_call(bytes: &[u8], out: &mut Vec<u8>)
 
 /// Writes the lossily decoded text to a slice that is long enough, and returns its length. The text
 /// is copied from an array, since the pass also stores bytes after it, where the slice must not
-/// change. It is not inlined, since it is called twice, and so that only a call clears the array.
+/// change. Strict decoding calls it too, for bytes that it has validated, whose two texts are the
+/// same. It is not inlined, since it is called twice, and so that only a call clears the array.
 #[inline(never)]
 pub fn put_chunks<F: Flavor>(bytes: &[u8], out: &mut [u8]) -> usize
     requires { lossy_length F.flavor bytes.now ≤ length out.old }

@@ -1,4 +1,6 @@
--- Packing eight bytes by a shuffle, for `store_row`, and 32 bytes by four, for `store_block`.
+-- Packing eight bytes by a shuffle, for `store_row`, and 32 bytes by four, for `store_block`. Each
+-- byte of UTF-8 becomes one or two bytes: `seconds` has the last of them, and `firsts` the one
+-- before it. The tests `ts`, whose mask is `d`, say which bytes become two.
 use Rattle.std.proofs.lemmas.Bool.Decides.{nat_tests}
 use Rattle.std.proofs.lemmas.Grind.{common_steps}
 use Rattle.std.proofs.Common.{◌≡◌, ℕ, zero, suc, ◌+◌, ◌<◌, ◌≤◌, Bool, true, List, [], ◌∷◌, ◌++◌, map, length, take, drop, get_or, append_assoc, eqb, ltb, refl, sym, ◌∙◌, subst, arith, w8, count_ones, eqb-true, append-nil, ◌/◌, ◌%◌, ◌^◌, ap, bit_and}
@@ -24,7 +26,7 @@ kept_packed g (t ∷ ts) i =
     let next : 8 + i + 1 ≡ 8 + (i + 1) = omega arith in
     rw (low.0, low.1, next) (grind (arith, common_steps, kept_packed g ts (i + 1)))
 
--- The shuffle keeps as many lanes as there are bytes and set bits.
+-- The shuffle keeps one lane for each byte, and one more for each set bit.
 length_kept : (ts : List Bool) (i : ℕ) → length (kept_lanes (mask_l ts) i (length ts)) ≡ length ts + count_ones (mask_l ts)
 unfolding lib.Count.ones
 length_kept [] i = refl
@@ -70,8 +72,7 @@ module _ (out lanes row : List ℕ) (at d : ℕ) (ts : List Bool)
   kept_long : length kept ≡ 8 + count_ones d
   kept_long = rw (← d_is, ts_long) at (length_kept ts 0)
 
-  -- After a row is stored, its packed content follows what preceded it, up to the end of the
-  -- content.
+  -- After a row is stored, the bytes before it are as before, and what is packed follows them.
   pub stored_row : (end : ℕ) → end ≡ at + 8 + count_ones d →
       take end (put_chunk at out (swz_l w8 16 lanes 0 row)) ≡ take at out ++ packed ts (chunk 8 8 lanes) (chunk 0 8 lanes)
   stored_row end end_is = grind (arith, nat_tests, common_steps, kept_is, kept_long, length-map, map-append, shuffle_below, shuffle_long, shuffled, stored_prefix, swz_l)
@@ -111,7 +112,7 @@ module _ (firsts seconds : List ℕ) (ts : List Bool) (f : length firsts ≡ 32)
       let last : packed (drop 32 ts) (drop 32 firsts) (drop 32 seconds) ≡ [] = rw (drop_all 32 ts (omega arith)) refl in
       grind (arith, append_assoc, append-nil, part 0 (omega arith), part 8 (omega arith), part 16 (omega arith), part 24 (omega arith), last)
 
--- The set bits of the first 24 are those of the first three rows, which have eight bits each.
+-- The first 24 bits have as many set bits as the first three rows together, which have eight each.
 pub rows_count : (d : ℕ) →
     count_ones (d % 2 ^ 24) ≡ count_ones (bit_and d 0xFF) + count_ones (bit_and (d / 2 ^ 8) 0xFF) + count_ones (bit_and (d / 2 ^ 16) 0xFF)
 rows_count d =

@@ -1,4 +1,5 @@
-//! The encoding as a value, for types that are not generic in it.
+//! The encoding as a value, for `CountedText`. In other code a type with the trait `Flavor` stands
+//! for the encoding.
 
 /// One of the two encodings.
 #[derive(Clone, Copy)]

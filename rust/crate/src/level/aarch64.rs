@@ -1,11 +1,12 @@
 //! The level of aarch64: NEON, which every build for it may use.
 //!
 //! `level.rs` says what each macro is for. They take the same arguments as those of the levels in
-//! `x86.rs`, and ignore some of them: with NEON in every build, no function needs `target_feature`
-//! or `unsafe`, and each table is a static of this level.
+//! `x86.rs`, and ignore some of them: with NEON in every build, no function is `unsafe` or
+//! needs `target_feature`, and each table is a static of this level.
 
 macro_rules! at_level {
-    // `reader`, `writer` or `loop`, which `erase.py` adds if the function passes no vector.
+    // `reader`, `writer` or `loop`, which `erase.py` adds to a function that is always inlined in
+    // Rattle and passes no vector. In a debug build, inlining all of these would take minutes.
     ($passes:ident { $($function:tt)* } $call:expr) => {
         #[cfg_attr(not(debug_assertions), inline(always))]
         $($function)*

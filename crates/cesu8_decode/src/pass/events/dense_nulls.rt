@@ -1,7 +1,8 @@
-//! Writes the text of a window in which many bytes are C0 80, and which has no other event.
+//! Writes the text of a window in which many bytes are C0 80, and which has no other event. It is
+//! right for any number of C0 80, and faster from `MANY_NULLS` (in `events`) on.
 //!
-//! C0 becomes 00 and 80 is dropped, so shuffles pack the bytes by eights, with no branch on a byte.
-//! No byte of the window is ill-formed, so each C0 in it begins C0 80.
+//! C0 becomes 00 and the 80 after it is dropped, so shuffles pack the bytes by eights, with no
+//! branch on a byte. No byte of the window is ill-formed, so each C0 in it begins C0 80.
 
 ghost use Rattle.std.specs.Prelude.{◌≡◌, ◌+◌, ◌≤◌, ◌==◌, if◌then◌else◌, length, map};
 ghost use Rattle.cesu8_decode.specs.Decoding.{WritesWindow};
@@ -34,6 +35,7 @@ pub fn write_nulls<F: Flavor>(
     let mut end = end;
     while written < LANES {
         let block = u8x32::from_slice(&bytes[at + written..]);
+        // Of the mask, `store_kept` uses the lowest 32 bits, which are those of the block.
         end = store_kept(zeroed(block), (left_out >> written) as usize, out, end);
         written += BLOCK;
     }

@@ -1,5 +1,5 @@
--- What was read so far was converted, and is at the start of the buffer. An iteration that reads
--- nothing is the last one.
+-- What was read so far was converted, and the result is at the start of the buffer. Each iteration
+-- but the last reads at least one byte, so fewer are left.
 use Rattle.std.proofs.Common.{◌≤◌, ◌-◌, length}
 use Rattle.cesu8_stream.specs.Written.{Converts}
 use Rattle.cesu8_stream.proofs.engine.convert_rest.Given as goal

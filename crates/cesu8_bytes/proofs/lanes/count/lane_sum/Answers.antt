@@ -1,5 +1,6 @@
--- Each of the 16 dot products sums four of the 64 lanes, and their sum is that of all lanes. No
--- partial sum overflows 32 bits.
+-- The weights of `dot4` are all 1, so each of the 16 dot products sums four of the 64 lanes, and
+-- their sum is that of all lanes. No partial sum overflows 32 bits. The goal `dot4` is that no
+-- weight or pair of products is too large for the instruction.
 use Rattle.std.proofs.Common.{arith}
 use Rattle.std.proofs.lemmas.Simd.{dot4_Fits}
 use Rattle.cesu8_bytes.proofs.vectors.Counts.{dots_sum_fits, dots_sum}
