@@ -117,12 +117,13 @@ install_beside() {
 }
 
 # After two installations, with the libraries in two folders, one run of uninstall.sh removes
-# everything. `head` reads only one line of what the first installation prints.
+# everything, also the folder cmake between two that are named cesu8. `head` reads only one line of
+# what the first installation prints.
 install_twice() {
     local prefix=$scratch/twice
     "$unpacked/install.sh" "$prefix" | head -n 1 >"$scratch/said"
     [[ -s $scratch/said ]] || wrong 'install.sh prints nothing the first time'
-    quietly "$unpacked/install.sh" "$prefix" lib64 || wrong 'install.sh fails the second time'
+    quietly "$unpacked/install.sh" "$prefix" lib/cesu8 || wrong 'install.sh fails the second time'
     uninstall "$prefix"
 }
 

@@ -2,8 +2,8 @@
 # Removes what install.sh installed, and prints each file that it removes:
 #   PREFIX/share/doc/cesu8/uninstall.sh
 # It removes the files below PREFIX that the list INSTALLED beside it names; PREFIX may have been moved.
-# Then it removes the folders named cesu8 in which it removed a file, and their subfolders, if they are
-# empty. Folders that may have other users, such as bin, are not removed.
+# Then it removes the folders above these files that are named cesu8 or are below one that is, if they
+# are empty. Folders that may have other users, such as bin, are not removed.
 #
 # With an argument, without a list, or elsewhere than in PREFIX/share/doc/cesu8, the status is 2, and
 # nothing is removed. --help prints the usage.
@@ -37,22 +37,26 @@ while IFS= read -r path; do
         removed="$removed$prefix/$path
 "
     fi
-    case $path in
-        */cesu8/*)
-            folders="${path%/*}
-$folders"
-            ;;
-    esac
+    folder=$path
+    above=
+    while [ "$folder" != "${folder%/*}" ]; do
+        folder=${folder%/*}
+        case /$folder/ in
+            */cesu8/*)
+                above="$above$folder
+"
+                ;;
+        esac
+    done
+    folders=$folders$above
 done <<LIST
 $list
 LIST
-# After each folder comes the one that contains it. That may also come earlier, when it is not yet
-# empty.
-while IFS= read -r folder; do
+# A folder is in this list after each file below it, with the folders between them before it. So it is
+# empty when it comes for the last time.
+printf '%s' "$folders" | while IFS= read -r folder; do
     rmdir "$prefix/$folder" 2>/dev/null || :
-done <<FOLDERS
-$folders
-FOLDERS
+done
 
 # The names are printed last: if the reader ends early, as head does, the files are already removed.
 printf '%s' "$removed" | while IFS= read -r path; do printf '%s\n' "$path"; done
