@@ -33,7 +33,8 @@ pub fn encode_to_slice<F: Flavor>(text: &str, buf: &mut [u8]) -> Result<usize, N
     encode_in_place::<F>(text, buf)
 }
 
-/// Encodes at most a block to the stack, and copies the result.
+/// Encodes at most a block to the stack, and copies the result. It is not inlined, so that only a
+/// call clears the array.
 #[inline(never)]
 #[tactic(auto, using(cesu8_text::proofs::encoding::Lengths::length_encoding_chars))]
 fn encode_block_to_slice<F: Flavor>(text: &str, buf: &mut [u8]) -> Result<usize, NoRoom>

@@ -1,5 +1,6 @@
 -- A table of 256 shuffles has the rows that it should have, by computation. The proofs of
--- `rows_of_eight` and of `doubling_rows` in `cesu8_encode` cite `rows_by`.
+-- `rows_of_eight` and of `doubling_rows` in `cesu8_encode` cite `rows_by`, and that of the rows of
+-- sixteen in `cesu8_decode` cites `same_list_is`.
 use Rattle.std.proofs.Common.{◌≡◌, ℕ, ◌<◌, Bool, true, false, ◌&&◌, List, [], ◌∷◌, refl, eqb, get_or, eqb-true}
 use Rattle.std.proofs.lemmas.Bool.{agree_below, agree_below_at, and_parts}
 
@@ -11,7 +12,7 @@ same_list (x ∷ xs) [] = false
 same_list (x ∷ xs) (y ∷ ys) = eqb x y && same_list xs ys
 
 -- Lists for which the computation returns true are equal.
-same_list_is : (xs ys : List ℕ) → same_list xs ys ≡ true → xs ≡ ys
+pub same_list_is : (xs ys : List ℕ) → same_list xs ys ≡ true → xs ≡ ys
 unfolding same_list
 same_list_is [] [] e = refl
 same_list_is [] (y ∷ ys) e = absurd (let h = e in cc)

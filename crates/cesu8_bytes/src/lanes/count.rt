@@ -51,6 +51,7 @@ pub fn weight<C: CountsOne>(value: &[u8]) -> usize
     }
 }
 
+/// Sums whole blocks first, and then the rest. It is not inlined, since it is long.
 #[inline(never)]
 fn long_weight<C: CountsOne>(value: &[u8]) -> usize
     ensures { result ≡ sum_by (weight_of C.class) value.now }

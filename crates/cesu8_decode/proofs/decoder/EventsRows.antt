@@ -3,8 +3,8 @@
 -- i is ill-formed. The last entry of a row is how many bytes it writes. In `kept_of 0 set 0 4`,
 -- `set` is the number of the row, the first 0 says that no byte is dropped, and `0 4` that the row
 -- packs four bytes, from lane 0 on.
-use Rattle.std.proofs.Common.{◌≡◌, ℕ, ◌+◌, ◌-◌, ◌/◌, ◌%◌, ◌^◌, ◌<◌, ◌≤◌, Bool, true, false, eqb, List, [], ◌∷◌, ◌++◌, length, take, drop, get_or, replicate, refl, sym, ap, ◌∙◌, arith, length-drop, bit_and}
-use Rattle.std.proofs.lemmas.Bool.{agree_below_at, and_parts, eqb-true}
+use Rattle.std.proofs.Common.{◌≡◌, ℕ, ◌+◌, ◌-◌, ◌/◌, ◌%◌, ◌^◌, ◌<◌, ◌≤◌, Bool, false, List, [], ◌∷◌, ◌++◌, length, take, drop, get_or, replicate, refl, sym, ap, ◌∙◌, arith, length-drop, bit_and}
+use Rattle.std.proofs.lemmas.Bool.{agree_below_at}
 use Rattle.std.proofs.lemmas.List.{length-take, length-take-le, take-take, drop-take}
 use Rattle.std.proofs.lemmas.Nat.{and_mask}
 use Rattle.std.proofs.lemmas.Simd.{pick_l-range_with_len, length-chunk}
@@ -13,17 +13,8 @@ use Rattle.cesu8_bytes.specs.Packing.{written, kept_of, lanes_at, shuffle_keepin
 use Rattle.cesu8_bytes.specs.Puts.{WritesAt}
 use Rattle.cesu8_bytes.proofs.vectors.Packing.{at_most, is_short, end_of_row, row_written, lanes_written, in_four}
 use Rattle.cesu8_bytes.proofs.vectors.Rows.{mask_prefix, mask_rest}
-use Rattle.cesu8_bytes.proofs.vectors.Tables.{same_list, same_rows}
+use Rattle.cesu8_bytes.proofs.vectors.Tables.{same_list, same_list_is, same_rows}
 use Rattle.cesu8_decode.specs.declared.pass.events.replaced.TheConstants.{ROWS}
-
-same_list_is : (xs ys : List ℕ) → same_list xs ys ≡ true → xs ≡ ys
-unfolding same_list
-same_list_is [] [] e = refl
-same_list_is [] (y ∷ ys) e = absurd (let h = e in cc)
-same_list_is (x ∷ xs) [] e = absurd (let h = e in cc)
-same_list_is (x ∷ xs) (y ∷ ys) e =
-    let parts = and_parts (eqb x y) (same_list xs ys) e in
-    (λ i. eqb-true x y parts.0 i ∷ same_list_is xs ys parts.1 i)
 
 abbrev kept_by : ℕ → List ℕ
 kept_by set = kept_of 0 set 0 4

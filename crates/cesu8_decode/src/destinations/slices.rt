@@ -194,6 +194,7 @@ pub fn copy_short_or_call(bytes: &[u8], buf: &mut [u8]) -> Result<usize, NoRoom>
     copy_by_call(bytes, buf)
 }
 
+/// Calls `copy_short`, whose code is long.
 #[inline(never)]
 fn copy_short_by_call(bytes: &[u8], buf: &mut [u8])
     requires { length bytes.now ≤ length buf.old }
