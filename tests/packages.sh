@@ -105,7 +105,7 @@ wanted_files() {
                 sed '/man1/s/$/.1.gz/'
             ;;
         *) echo "$shared" ;;
-    esac | sort
+    esac
 }
 
 look_at_files() {
@@ -149,7 +149,8 @@ look_at_library() {
     [[ $(<"$control/shlibs") == "libcesu8 $major $library (>= $version)" ]] ||
         wrong 'shlibs says something else'
     [[ $(<"$control/triggers") == 'activate-noawait ldconfig' ]] || wrong 'triggers says something else'
-    # The expected nodes come from the version map.
+    # By the version map: each node, such as CESU8_1.0, is a symbol too, and version 1.0.0 added it
+    # and its names.
     awk '
         $2 == "{" { node = $1; print " " node "@" node, substr(node, 7) ".0" }
         /^ +cesu8_[a-z0-9_]+;$/ {
@@ -230,7 +231,7 @@ STATUS
 
 remove_packages() {
     on_root --purge "${names[@]}" || wrong 'dpkg does not remove the packages'
-    find "$root" -path '*cesu8*' -not -path '*/dpkg/*' | grep . && wrong 'these are left'
+    (cd "$root" && find . -path '*cesu8*' -not -path '*/dpkg/*') | grep . && wrong 'these are left'
 }
 
 use_packages() {
@@ -351,6 +352,7 @@ install_both() {
         echo 'apt-get is missing: dpkg installs the packages for arm64'
         on_root --install "${all[@]}" "${cross[@]}" || wrong 'dpkg does not install all packages'
     fi
+    # From here on, `names` are all installed packages, for `remove_packages`.
     names=(cesu8-tools "${cross_names[@]/%/:amd64}" "${cross_names[@]/%/:arm64}")
     for name in "${names[@]}"; do
         [[ $(dpkg-query --admindir="$root/var/lib/dpkg" --show --showformat='${db:Status-Abbrev}' "$name") \
