@@ -36,7 +36,7 @@ pub fn inserted(
     put: &[u8],
     place: usize,
 ) -> Vec<u8> {
-    fills::inserted(alloc, fill, put, place).expect(rt, "an input")
+    fills::spliced(alloc, fill, put, place..place).expect(rt, "an input")
 }
 
 /// ASCII of length `len`, with a character inserted at one offset.

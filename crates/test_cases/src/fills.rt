@@ -1,6 +1,7 @@
 //! Long inputs: a few bytes that are repeated, and other bytes at one place among them.
 
 use std::alloc::{AllocError, Global};
+use std::ops::Range;
 
 /// Characters of each width. C0 80 is valid in MUTF-8 only. The last fill mixes three widths, so
 /// that blocks and windows end at different characters of it.
@@ -41,28 +42,16 @@ pub fn filled(alloc: Global, fill: &[u8], len: usize) -> Result<Vec<u8>, AllocEr
     Ok(bytes)
 }
 
-/// The first `len` bytes of a repeated fill, with `put` inserted at offset `place`.
-pub fn inserted(
+/// The first `len` bytes of a repeated fill, with `put` in place of the bytes at the offsets `over`,
+/// which may be none.
+pub fn spliced(
     alloc: Global,
     (fill, len): (&[u8], usize),
     put: &[u8],
-    place: usize,
+    over: Range<usize>,
 ) -> Result<Vec<u8>, AllocError> {
     let filled = filled(alloc, fill, len)?;
-    let (front, back) = filled.as_slice().split_at(place.min(filled.len()));
-    joined(alloc, &[front, put, back])
-}
-
-/// The first `len` bytes of a repeated fill, with `put` at offset `place` instead of as many bytes
-/// of the fill.
-pub fn replaced(
-    alloc: Global,
-    (fill, len): (&[u8], usize),
-    put: &[u8],
-    place: usize,
-) -> Result<Vec<u8>, AllocError> {
-    let filled = filled(alloc, fill, len)?;
-    let (front, over) = filled.as_slice().split_at(place.min(filled.len()));
-    let back = over.get(put.len()..).unwrap_or(&[]);
+    let (front, _) = filled.as_slice().split_at(over.start.min(filled.len()));
+    let back = filled.get(over.end..).unwrap_or(&[]);
     joined(alloc, &[front, put, back])
 }

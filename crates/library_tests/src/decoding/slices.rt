@@ -6,7 +6,7 @@ use std::alloc::Global;
 use std::ops::Range;
 use std::process::Abort;
 use test_cases::borders::BORDERS;
-use test_cases::fills::{FILLS, OTHER_FILLS, replaced};
+use test_cases::fills::{FILLS, OTHER_FILLS, spliced};
 use test_cases::flavors::Flavor;
 use test_cases::slices::expect_slices;
 
@@ -45,7 +45,7 @@ fn assert_each_place(
 ) {
     for len in lengths {
         for place in 0..len {
-            let bytes = replaced(alloc, (fill, len), &[byte], place);
+            let bytes = spliced(alloc, (fill, len), &[byte], place..place + 1);
             assert_read(rt, alloc, &bytes.expect(rt, "an input"));
         }
     }
